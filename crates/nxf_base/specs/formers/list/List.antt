@@ -1,0 +1,54 @@
+-- How a `List<T>` holds its items: they are the items of its `Vec`, in order, so that a tree may hold lists of trees.
+use mathlib.Core.Path.{◌≡◌, refl, sym}
+use mathlib.Core.List.{List, []}
+use mathlib.Core.Former.{Former, this, list, via, children}
+use base.Stored.{code_map}
+use denote.RattleType.{RattleType}
+use denote.HoleLaws.{Alike}
+use denote.HolePlaces.{Recodes, struct_places, laid}
+use denote.Hole.Carrier.{listed, list-listed}
+use denote.Hole.Fix.{over}
+use denote.Param.Weighed.{Weighed, w_list}
+use denote.Model.Placed.{view_places}
+use Rattle.std.specs.formers.vec.Vec as vec
+use Rattle.std.specs.declared.alloc.Global.{Global}
+use Rattle.std.specs.contracts.alloc.Global as heap
+use Rattle.std.specs.contracts.impls.GlobalAllocator.TheImpl.{ghosts}
+use Rattle.nxf_base.specs.declared.list.List.TheInside.{Inside}
+use Rattle.nxf_base.specs.declared.list.List.TheView.{view, invariant}
+use Rattle.nxf_base.specs.contracts.list.List as contracts
+use Rattle.nxf_base.specs.contracts.list.List.TheInside as inside
+
+-- A list splits into its shape and its items as the list of the logic does.
+abbrev pub the_former : Former {0} → Former {0}
+the_former g = list g
+
+abbrev pub the_weighed : {g : Former {0}} → Weighed g → Weighed (the_former g)
+the_weighed w = w_list w
+
+pub the_empty : List ⊥
+the_empty = []
+
+abbrev pub the_items : (X : Type 0) → List X → List X
+the_items X items = items
+
+pub the_items_listed : (X : Type 0) (items : List X) → listed _ (children (the_former this) X items) ≡ the_items X items
+the_items_listed X items = list-listed X items
+
+-- The struct's one field, which has the items.
+abbrev field : Former {0}
+field = via (vec.the_former this Global) Inside (λ X a. a.items) (λ X v. record { items = v }) (λ X a. refl) (λ X v. refl)
+
+-- Items of two rows that are alike lie alike in their lists, and have the codes that the lists have.
+module _ (R S : RattleType) (h : R.Denot → S.Denot) where
+  pub the_places : Alike R S h → Alike (contracts.the_row R) (contracts.the_row S) ((the_former this).map R.Denot S.Denot h)
+  the_places alike =
+      view_places field (list this) view (λ X Y k u. refl) (λ X u. refl) R.Denot S.Denot h
+          (contracts.the_row R).coded (contracts.the_row S).coded
+          (invariant R.Denot) (invariant S.Denot) (λ u p q. refl) (λ u p q. refl) (λ u e. tt) (λ u e. tt)
+          (over (inside.the_row R)) (over (inside.the_row S))
+          (struct_places (inside.the_type R) (inside.the_type S) (vec.mapped h, tt) _ (λ d. refl) refl
+              (laid _ _ _ (vec.the_places heap.the_row ghosts R S h alike), tt))
+
+  pub the_codes_placed : Recodes R S h → Recodes (contracts.the_row R) (contracts.the_row S) ((the_former this).map R.Denot S.Denot h)
+  the_codes_placed recodes items = sym (code_map R.coded.code S.coded.code h (λ x. sym (recodes x)) items)
