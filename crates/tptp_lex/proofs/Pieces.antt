@@ -1,15 +1,13 @@
 -- The lexemes of a text are determined.
 use Rattle.std.proofs.Common.{◌≡◌, ℕ, ◌+◌, ◌-◌, ◌≤◌, ◌<◌, Some, None, List, [], ◌∷◌, ◌++◌, length, take, drop, refl, sym, ap, subst, ◌∙◌, arith, append_assoc, length-append}
-use Rattle.std.proofs.lemmas.List.{take-append-drop, append-nil, length-take-le}
+use Rattle.std.proofs.lemmas.List.{take-append-drop, append-nil, length-take-le, length-drop}
 use Rattle.std.proofs.Math.Seq.{drop-append_seam, take-append_seam, drop-append-add}
-use Rattle.std.specs.List.{All, AllByRecursion}
-use Rattle.std.proofs.lemmas.List.Elements.{All-from_recursion}
 use Rattle.tptp_lex.specs.declared.token.Token.{Token}
 use Rattle.tptp_lex.specs.declared.token.Lexeme.TheVariants as lexeme
 use Rattle.tptp_lex.specs.declared.token.Lexeme.{Lexeme}
 use Rattle.tptp_lex.specs.Front.{front}
 use Rattle.tptp_lex.specs.Shapes.{IsLexeme, IsLongest}
-use Rattle.tptp_lex.specs.Lexing.{Piece, Begins, token_of, tokens_from, Lexes, IsBadPlace, IsSpan}
+use Rattle.tptp_lex.specs.Lexing.{Piece, Begins, token_of, tokens_from, Lexes, IsBadPlace}
 use Rattle.tptp_lex.proofs.Complete.{reaches}
 use Rattle.tptp_lex.proofs.Sound.{sound}
 
@@ -24,8 +22,7 @@ found_longest text k n h fits = record {
       let both : Some (k, n) ≡ Some (k2, r.len) = sym h ∙ there in
       let same : (k, n) ≡ (k2, r.len) = cc in
       let len : n ≡ r.len = ap (λ (x : Lexeme × ℕ). x.1) same in
-      let kinds : k ≡ k2 = ap (λ (x : Lexeme × ℕ). x.0) same in
-      (rw (length-take-le n text fits) (omega (arith, len, r.long)), sym kinds);
+      rw (length-take-le n text fits) (omega (arith, len, r.long));
 }
 
 -- where nothing is found there is no lexeme
@@ -34,6 +31,15 @@ none_there text h k s a e is =
     let r = reaches k s a is in
     let there : None ≡ Some (k, r.len) = sym h ∙ ap front e ∙ r.found in
     cc
+
+-- lexemes that begin one text have one kind
+pub one_kind : (text : List ℕ) (k l : Lexeme) (s t a b : List ℕ) → text ≡ s ++ a → IsLexeme k s a → text ≡ t ++ b → IsLexeme l t b → k ≡ l
+one_kind text k l s t a b p is q are =
+    let first = reaches k s a is in
+    let second = reaches l t b are in
+    let both : Some (k, first.len) ≡ Some (l, second.len) = sym first.found ∙ ap front (sym p ∙ q) ∙ second.found in
+    let same : (k, first.len) ≡ (l, second.len) = cc in
+    ap (λ (x : Lexeme × ℕ). x.0) same
 
 -- the longest lexemes at one place
 record SameFront (k l : Lexeme) (s t a b : List ℕ) : Type 0 where
@@ -45,9 +51,9 @@ same_front : (text : List ℕ) (k l : Lexeme) (s t a b : List ℕ) → IsLongest
 same_front text k l s t a b p q =
     let first = p.longest l t b q.parts q.is in
     let second = q.longest k s a p.parts p.is in
-    let len : length s ≡ length t = omega (arith, first.0, second.0) in
+    let len : length s ≡ length t = omega (arith, first, second) in
     record {
-      kinds = second.1;
+      kinds = one_kind text k l s t a b p.parts p.is q.parts q.is;
       spellings = sym (take-append_seam s a) ∙ ap (take (length s)) (sym p.parts) ∙ ap (λ (n : ℕ). take n text) len ∙ ap (take (length t)) q.parts ∙ take-append_seam t b;
       rests = sym (drop-append_seam s a) ∙ ap (drop (length s)) (sym p.parts) ∙ ap (λ (n : ℕ). drop n text) len ∙ ap (drop (length t)) q.parts ∙ drop-append_seam t b;
     }
@@ -68,17 +74,24 @@ none_in_nothing : (k : Lexeme) (s a : List ℕ) → [] ≡ s ++ a → IsLexeme k
 unfolding front
 none_in_nothing k s a e is = none_there [] refl k s a e is
 
-one_list : (text : List ℕ) (ps qs : List Piece) → Begins text ps [] → Begins text qs [] → (at : ℕ) → tokens_from at ps ≡ tokens_from at qs
-one_list text [] [] h g at = refl
-one_list text [] (q ∷ qs) h g at = absurd (none_in_nothing q.kind q.spelling g.0 (sym h ∙ g.1.parts) g.1.is)
-one_list text (p ∷ ps) [] h g at = absurd (none_in_nothing p.kind p.spelling h.0 (sym g ∙ h.1.parts) h.1.is)
-one_list text (p ∷ ps) (q ∷ qs) h g at =
+abbrev piece : Lexeme → List ℕ → Piece
+piece k s = record { kind = k; spelling = s }
+
+same_piece : (p q : Piece) → p.kind ≡ q.kind → p.spelling ≡ q.spelling → p ≡ q
+same_piece p q kinds spellings = ap (λ (k : Lexeme). piece k p.spelling) kinds ∙ ap (λ (s : List ℕ). piece q.kind s) spellings
+
+pub one_list : (text : List ℕ) (ps qs : List Piece) → Begins text ps [] → Begins text qs [] → ps ≡ qs
+one_list text [] [] h g = refl
+one_list text [] (q ∷ qs) h g = absurd (none_in_nothing q.kind q.spelling g.0 (sym h ∙ g.1.parts) g.1.is)
+one_list text (p ∷ ps) [] h g = absurd (none_in_nothing p.kind p.spelling h.0 (sym g ∙ h.1.parts) h.1.is)
+one_list text (p ∷ ps) (q ∷ qs) h g =
     let same = same_front text p.kind q.kind p.spelling q.spelling h.0 g.0 h.1 g.1 in
-    let rest = one_list h.0 ps qs h.2 (subst (λ (x : List ℕ). Begins x qs []) (sym same.rests) g.2) (at + length p.spelling) in
-    rw (rest, same.kinds, same.spellings) refl
+    let first = same_piece p q same.kinds same.spellings in
+    let rest = one_list h.0 ps qs h.2 (subst (λ (x : List ℕ). Begins x qs []) (sym same.rests) g.2) in
+    rw (rest, first) refl
 
 pub one_lexing : (text : List ℕ) (ts us : List Token) → Lexes text ts → Lexes text us → ts ≡ us
-one_lexing text ts us h g = h.2 ∙ one_list text h.0 g.0 h.1 g.1 0 ∙ sym g.2
+one_lexing text ts us h g = h.2 ∙ ap (tokens_from 0) (one_list text h.0 g.0 h.1 g.1) ∙ sym g.2
 
 pub no_bad_place : (text : List ℕ) (ts : List Token) (at : ℕ) → Lexes text ts → IsBadPlace text at → ⊥
 no_bad_place text ts at h bad = omega (arith, bad.furthest h.0 [] h.1, bad.within)
@@ -117,6 +130,10 @@ so_far_more text rest at n k tokens new s found fits is =
           ∙ sym (tokens_more text rest (drop n rest) s.pieces p 0 at s.begins (omega (arith, s.place)));
     }
 
+pub all_lexed : (text rest : List ℕ) (at : ℕ) (tokens : List Token) → IsSoFar text rest at tokens → length rest ≡ 0 → Lexes text tokens
+all_lexed text [] at tokens s none = (s.pieces, s.begins, s.tokens_are)
+all_lexed text (b ∷ rest) at tokens s none = absurd (omega (arith, none))
+
 drop_to : (text rest : List ℕ) (ps : List Piece) (at : ℕ) → Begins text ps rest → at + length rest ≡ length text → rest ≡ drop at text
 drop_to text rest [] at h place = let none : at ≡ 0 = omega (arith, place, ap length h) in rw none (sym h)
 drop_to text rest (p ∷ ps) at h place =
@@ -137,19 +154,13 @@ bad_place text rest at tokens s none some =
       furthest = λ ps r g. omega (arith, furthest text rest s.pieces s.begins none ps r g, s.place);
     }
 
--- ---- spans
-
-span_first : (k : Lexeme) (start end len : ℕ) (ts : List Token) → start ≤ end → end ≤ len → AllByRecursion (IsSpan len) ts → AllByRecursion (IsSpan len) (token_of k start end ++ ts)
-span_first lexeme.Blank start end len ts order fits others = others
-span_first lexeme.Comment start end len ts order fits others = others
-span_first (lexeme.Token kind) start end len ts order fits others = ((order, fits), others)
-
-within_from : (text : List ℕ) (ps : List Piece) (at len : ℕ) → Begins text ps [] → at + length text ≡ len → AllByRecursion (IsSpan len) (tokens_from at ps)
-within_from text [] at len h place = tt
-within_from text (p ∷ ps) at len h place =
-    let long : length text ≡ length p.spelling + length h.0 = omega (arith, ap length h.1.parts, length-append p.spelling h.0) in
-    let others = within_from h.0 ps (at + length p.spelling) len h.2 (omega (arith, long)) in
-    span_first p.kind at (at + length p.spelling) len (tokens_from (at + length p.spelling) ps) (omega arith) (omega (arith, long)) others
-
-pub within : (text : List ℕ) (ts : List Token) → Lexes text ts → All (IsSpan (length text)) ts
-within text ts h = subst (λ (x : List Token). All (IsSpan (length text)) x) (sym h.2) (All-from_recursion (IsSpan (length text)) (tokens_from 0 h.0) (within_from text h.0 0 (length text) h.1 (omega arith)))
+-- there is one bad place
+pub one_bad_place : (text : List ℕ) (at place : ℕ) → IsBadPlace text at → IsBadPlace text place → at ≡ place
+one_bad_place text at place p q =
+    let first = p.furthest q.pieces (drop place text) q.leads in
+    let second = q.furthest p.pieces (drop at text) p.leads in
+    let here = length-drop at text in
+    let there = length-drop place text in
+    let under = p.within in
+    let below = q.within in
+    omega (arith, first, second, here, there, under, below)

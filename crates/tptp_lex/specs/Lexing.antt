@@ -1,5 +1,5 @@
 -- The lexemes of a text, its tokens, and where it has none.
-use Rattle.std.specs.Prelude.{◌≡◌, ◌≤◌, ◌<◌, ℕ, ◌+◌, List, [], ◌∷◌, ◌++◌, length, drop, ◌⊎◌}
+use Rattle.std.specs.Prelude.{◌≡◌, ◌≤◌, ◌<◌, ℕ, ◌+◌, List, [], ◌∷◌, ◌++◌, length, drop, ◌⊎◌, Some, slice_get}
 use Rattle.tptp_lex.specs.declared.token.Token.{Token}
 use Rattle.tptp_lex.specs.declared.token.Lexeme.{Lexeme}
 use Rattle.tptp_lex.specs.declared.token.Lexeme.TheVariants as lexeme
@@ -30,7 +30,7 @@ tokens_from at (p ∷ ps) = token_of p.kind at (at + length p.spelling) ++ token
 abbrev pub Lexes : List ℕ → List Token → Type 0
 Lexes text tokens = (ps : List Piece) × Begins text ps [] × (tokens ≡ tokens_from 0 ps)
 
--- lexemes lead to this place, and none lead further
+-- The longest list of lexemes from the beginning of the text ends at this place, before the end of the text.
 pub record IsBadPlace (text : List ℕ) (at : ℕ) : Type 0 where
   pub pieces : List Piece
   pub leads : Begins text pieces (drop at text)
@@ -43,6 +43,15 @@ BeginsClosed [] = ⊥
 BeginsClosed (b ∷ []) = (b ≡ 39) ⊎ (b ≡ 34)
 BeginsClosed (b ∷ c ∷ rest) = (b ≡ 39) ⊎ ((b ≡ 34) ⊎ ((b ≡ 47) × (c ≡ 42)))
 
+-- a token of the text, at some place of its list
+abbrev pub IsTokenOf : List ℕ → Token → Type 0
+IsTokenOf text token = (tokens : List Token) × (at : ℕ) × Lexes text tokens × (slice_get tokens at ≡ Some token)
+
 -- a span within so many bytes
 abbrev pub IsSpan : ℕ → Token → Type 0
 IsSpan len token = (token.start ≤ token.end) × (token.end ≤ len)
+
+-- spans in order from a place on, within so many bytes: none is empty, and none overlaps another
+abbrev pub AreSpans : ℕ → ℕ → List Token → Type 0
+AreSpans from len [] = from ≤ len
+AreSpans from len (token ∷ tokens) = (from ≤ token.start) × (token.start < token.end) × AreSpans token.end len tokens

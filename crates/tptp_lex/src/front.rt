@@ -1,6 +1,6 @@
 //! The lexeme at the front of a text.
 
-ghost use Rattle.std.specs.Prelude.{◌≡◌, ◌<◌, ◌≤◌, ◌+◌, ◌^◌, length, map, IfSome, slice_index, false};
+ghost use Rattle.std.specs.Prelude.{◌≡◌, ◌<◌, ◌≤◌, ◌+◌, ◌^◌, length, IfSome, slice_index, false};
 ghost use Rattle.std.specs.List.{prefix_len};
 ghost use Rattle.tptp_lex.specs.Front as spec;
 
@@ -29,13 +29,6 @@ pub enum Class {
     Digit,
     Other,
 }
-
-/// Each before those that it begins with.
-pub const PUNCTUATION: [&[u8]; 33] = [
-    b"<=>", b"<~>", b"<.>", b"[.]", b"<=", b"=>", b"==", b"!=", b"~|", b"~&", b"(", b")", b"[",
-    b"]", b"{", b"}", b",", b".", b":", b"=", b"!", b"?", b"&", b"|", b"~", b"<", b">", b"@", b"#",
-    b"*", b"+", b"-", b"^",
-];
 
 fn is_in(run: Run, b: u8) -> bool
     ensures { result ≡ spec.is_in run b }
@@ -217,25 +210,29 @@ fn number_len(text: &[u8]) -> usize
     whole + fraction + exponent_len(&text[whole + fraction..])
 }
 
-fn first_len(mut table: &[&[u8]], text: &[u8]) -> usize
-    ensures value { result ≡ spec.first_len (map (λ p. p.now) table.entry.now) text.now }
-    ensures within { result ≤ length text.now }
-{
-    while let [spelling, rest @ ..] = table {
-        if text.starts_with(spelling) {
-            return spelling.len();
-        }
-        table = rest;
-    }
-    0
-}
-
+/// How many bytes of punctuation begin the text, or 0.
 #[tactic(auto, unfolding(crate::specs::Front::punctuation_len))]
 fn punctuation_len(text: &[u8]) -> usize
     ensures value { result ≡ spec.punctuation_len text.now }
     ensures within { result ≤ length text.now }
 {
-    first_len(&PUNCTUATION, text)
+    match text {
+        [b'<', b'=' | b'~' | b'.', b'>', ..] => 3,
+        [b'[', b'.', b']', ..] => 3,
+        [b'<', b'=', ..] => 2,
+        [b'=', b'>' | b'=', ..] => 2,
+        [b'!', b'=', ..] => 2,
+        [b'~', b'|' | b'&', ..] => 2,
+        [
+            b'(' | b')' | b'[' | b']' | b'{' | b'}' | b',' | b'.' | b':' | b'=' | b'!' | b'?',
+            ..
+        ] => 1,
+        [
+            b'&' | b'|' | b'~' | b'<' | b'>' | b'@' | b'#' | b'*' | b'+' | b'-' | b'^',
+            ..
+        ] => 1,
+        _ => 0,
+    }
 }
 
 /// The lexeme at the front, and how many bytes it takes.

@@ -1,6 +1,6 @@
-ghost use Rattle.std.specs.Prelude.{◌≡◌, ◌<◌, ◌≤◌, ◌+◌, ◌^◌, ℕ, List, All, length, slice_get, Some, true, drop, IfOk, IfErr, OnOk, ◌++◌, IsTrue, ◌↔◌};
+ghost use Rattle.std.specs.Prelude.{◌≡◌, ◌≢◌, [], ◌<◌, ◌≤◌, ◌+◌, ◌^◌, ℕ, List, All, length, slice_get, Some, true, drop, Ok, Err, IfOk, IfErr, OnOk, ◌++◌, IsTrue, ◌↔◌};
 ghost use Rattle.tptp_lex.specs.declared.token.Token.{Token};
-ghost use Rattle.tptp_lex.specs.Lexing.{Lexes, IsSpan, token_of, IsBadPlace, BeginsClosed};
+ghost use Rattle.tptp_lex.specs.Lexing.{Piece, Begins, Lexes, IsSpan, AreSpans, token_of, IsBadPlace, BeginsClosed};
 ghost use Rattle.tptp_lex.specs.LexErrors.{Explains};
 
 use crate::front::front;
@@ -8,16 +8,19 @@ use crate::token::{Lexeme, Token};
 use std::alloc::Global;
 use std::marker::Model;
 
+/// Why a text has no tokens. A place is the offset in bytes at which the longest list of lexemes
+/// from the beginning of the text ends.
 #[derive(Debug, Drop)]
 pub enum LexError {
-    /// A byte that begins no lexeme.
+    /// A byte that begins no lexeme stands at this place.
     Bad(u64),
-    /// A quote, a double quote or `/*` that isn't closed.
+    /// A quote, a double quote or `/*` that isn't closed stands at this place.
     Unclosed(u64),
+    /// There was no memory for the list of tokens.
     Memory,
 }
 
-/// The tokens of a text, in order.
+/// The tokens of a text, in order. They don't overlap.
 #[derive(Debug, Drop)]
 pub struct Tokens {
     tokens: Vec<Token>,
@@ -33,18 +36,21 @@ impl Model for Tokens {
 }
 
 impl Tokens {
+    /// The tokens as a slice.
     pub fn as_slice(&self) -> &[Token]
         ensures { result.now ≡ self.now }
     {
         self.tokens.as_slice()
     }
 
+    /// How many tokens there are.
     pub fn len(&self) -> usize
         ensures { result ≡ length self.now }
     {
         self.tokens.len()
     }
 
+    /// The token with this number, counted from 0.
     pub fn get(&self, at: usize) -> Token
         requires { at < length self.now }
         ensures { slice_get self.now at ≡ Some result }
@@ -53,6 +59,7 @@ impl Tokens {
     }
 }
 
+/// Whether a quoted atom, a distinct object or a block comment begins here, closed or not.
 fn begins_closed(text: &[u8]) -> bool
     ensures { IsTrue result ↔ BeginsClosed text.now }
 {
@@ -87,11 +94,16 @@ fn push_token(tokens: &mut Vec<Token>, lexeme: Lexeme, start: u32, end: u32) -> 
     Ok(())
 }
 
-/// The tokens of the bytes, or the place where the longest list of lexemes ends.
+/// The tokens of a text of fewer than 2^32 bytes, with their spans: those of the lexemes that the
+/// TPTP language has in this profile, each the longest that begins at its place. Where no lexemes
+/// make up the whole text, it answers `Unclosed` or `Bad` with the place where the longest list of
+/// them ends, by the byte that stands there. `Memory` comes only for want of memory.
 pub fn lex(alloc: Global, bytes: &[u8]) -> Result<Tokens, LexError>
     requires { length bytes.now < 2 ^ 32 }
-    ensures tokens { IfOk result (λ tokens. Lexes bytes.now tokens) }
+    ensures lexed { IfOk result (λ tokens. Lexes bytes.now tokens) }
     ensures refused { IfErr result (λ e. Explains bytes.now e) }
+    ensures lexed_exactly { (tokens : List Token) → Lexes bytes.now tokens → result ≢ Err LexError.Memory → result ≡ Ok tokens }
+    ensures refused_exactly { (e : LexError) → Explains bytes.now e → e ≢ LexError.Memory → result ≢ Err LexError.Memory → result ≡ Err e }
 {
     let mut tokens = Vec::new(alloc);
     let mut rest = bytes;
@@ -108,13 +120,22 @@ pub fn lex(alloc: Global, bytes: &[u8]) -> Result<Tokens, LexError>
     Ok(Tokens { tokens })
 }
 
-/// The tokens of a text lie within it.
-pub fn spans_within()
-    ensures { (text : List ℕ) (ts : List Token) → Lexes text ts → All (IsSpan (length text)) ts }
+/// The tokens of a text stand in order within it, none is empty, and none overlaps another.
+pub fn spans_in_order()
+    ensures order { (text : List ℕ) (ts : List Token) → Lexes text ts → AreSpans 0 (length text) ts }
+    ensures within { (text : List ℕ) (ts : List Token) → Lexes text ts → All (IsSpan (length text)) ts }
 {}
 
-/// A text has one list of tokens, and none where it has a bad place.
+/// A text has no more tokens than bytes.
+pub fn no_more_tokens_than_bytes()
+    ensures { (text : List ℕ) (ts : List Token) → Lexes text ts → length ts ≤ length text }
+{}
+
+/// One list of lexemes fits a text and no other, so its tokens are determined. No text has both a
+/// list and a bad place, and none has two bad places.
 pub fn one_lexing()
+    ensures lexemes { (text : List ℕ) (ps qs : List Piece) → Begins text ps [] → Begins text qs [] → ps ≡ qs }
     ensures tokens { (text : List ℕ) (ts us : List Token) → Lexes text ts → Lexes text us → ts ≡ us }
-    ensures place { (text : List ℕ) (ts : List Token) (at : ℕ) → Lexes text ts → IsBadPlace text at → ⊥ }
+    ensures either { (text : List ℕ) (ts : List Token) (at : ℕ) → Lexes text ts → IsBadPlace text at → ⊥ }
+    ensures place { (text : List ℕ) (at other : ℕ) → IsBadPlace text at → IsBadPlace text other → at ≡ other }
 {}
