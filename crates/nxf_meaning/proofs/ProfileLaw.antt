@@ -36,24 +36,24 @@ use Rattle.nxf_meaning.proofs.NoFault.{some-none, or-none, map-none, test-passes
 use Rattle.nxf_meaning.proofs.Declared.{declared-known, is_plain_gives, is_plain_type, is_good_use, statements-good}
 
 -- the tests don't ask which is first
-same_text-sym : (x y : List ℕ) → same_text x y ≡ same_text y x
+pub same_text-sym : (x y : List ℕ) → same_text x y ≡ same_text y x
 same_text-sym x y = both_ways _ _
     (λ h. ap (λ z. same_text z x) (sym (same_text-true x y h)) ∙ same_text-refl x)
     (λ h. ap (λ z. same_text z y) (sym (same_text-true y x h)) ∙ same_text-refl y)
 
-same_sort-sym : (s r : SortName) → same_sort s r ≡ same_sort r s
+pub same_sort-sym : (s r : SortName) → same_sort s r ≡ same_sort r s
 same_sort-sym Individual Individual = refl
 same_sort-sym Individual (User b) = refl
 same_sort-sym (User a) Individual = refl
 same_sort-sym (User a) (User b) = same_text-sym a b
 
-same_index-sym : (i j : IndexName) → same_index i j ≡ same_index j i
+pub same_index-sym : (i j : IndexName) → same_index i j ≡ same_index j i
 same_index-sym Plain Plain = refl
 same_index-sym Plain (Named b) = refl
 same_index-sym (Named a) Plain = refl
 same_index-sym (Named a) (Named b) = same_text-sym a b
 
-same_index-refl : (i : IndexName) → same_index i i ≡ true
+pub same_index-refl : (i : IndexName) → same_index i i ≡ true
 same_index-refl Plain = refl
 same_index-refl (Named a) = same_text-refl a
 
