@@ -1,0 +1,5 @@
+pub mod Cases
+pub mod Declaring
+pub mod FirstForm
+pub mod Noting
+pub mod Numerals
