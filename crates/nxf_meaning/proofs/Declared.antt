@@ -133,13 +133,13 @@ module _ (us : List Use) where
   terms-good [] = refl
   terms-good (t ∷ ts) = good-append (term_uses t) (terms_uses ts) (term-good t) (terms-good ts)
 
-  uses-append : (os ps : List Occurrence) → uses (os ++ ps) ≡ uses os ++ uses ps
+  pub uses-append : (os ps : List Occurrence) → uses (os ++ ps) ≡ uses os ++ uses ps
   uses-append [] ps = refl
   uses-append (Occurrence.symbol u ∷ os) ps = ap (λ l. u ∷ l) (uses-append os ps)
   uses-append (Occurrence.sort s ∷ os) ps = uses-append os ps
   uses-append (Occurrence.index i ∷ os) ps = uses-append os ps
 
-  uses-symbols : (vs : List Use) → uses (map Occurrence.symbol vs) ≡ vs
+  pub uses-symbols : (vs : List Use) → uses (map Occurrence.symbol vs) ≡ vs
   uses-symbols [] = refl
   uses-symbols (v ∷ vs) = ap (λ l. v ∷ l) (uses-symbols vs)
 

@@ -12,7 +12,7 @@ use Rattle.nxf_tree.specs.SignatureOf.{signature_of}
 use Rattle.nxf_tree.specs.SortFaults.{SortFault, sort_fault_of}
 use Rattle.nxf_tree.specs.Profile.{Problem, Refusal, with_sorts, with_spec, with_parts}
 use Rattle.nxf_meaning.specs.Laws.{IsGoodReading, ProfileLaw, KeepsCountermodels, FileTheorem}
-use Rattle.nxf_meaning.proofs.ProfileLaw.{different, good-symbols, well-sorted}
+use Rattle.nxf_meaning.proofs.ProfileLaw.{different, in-range, well-sorted}
 use Rattle.nxf_meaning.proofs.FileLaw.{file-law}
 use Rattle.nxf_meaning.proofs.Whole.{embedding_theorem}
 
@@ -40,9 +40,9 @@ pub profile-law : ProfileLaw
 profile-law file p h =
     let r : IsReadWith file p = from-parts file p (parts_of file) h in
     subst (IsGoodReading file) (sym r.signature)
-    (record { names = different r.spec file r.sorted; symbols = good-symbols r.spec file r.sorted; sorted = well-sorted r.spec file r.sorted })
+    (record { names = different r.spec file r.sorted; numbers = in-range r.spec file r.sorted; sorted = well-sorted r.spec file r.sorted })
 
 pub file-theorem : FileTheorem
 file-theorem file p h =
     let r : IsGoodReading file p.signature = profile-law file p h in
-    record { over = file-law p.signature file r.symbols r.sorted; same = embedding_theorem p.signature file }
+    record { over = file-law p.signature file r.names r.numbers r.sorted; same = embedding_theorem p.signature file }

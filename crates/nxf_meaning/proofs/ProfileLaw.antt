@@ -3,7 +3,7 @@ use Rattle.std.proofs.Common.{◌≡◌, ℕ, suc, ◌+◌, Bool, true, false, L
 use Rattle.std.specs.Prelude.{◌&&◌, ◌||◌, not, if◌then◌else◌, map, filter, Option, None, Some, is_some}
 use Rattle.std.specs.Option.{option_or, option_map, unwrap_or}
 use Rattle.std.specs.List.{list_all, list_any, position_or_len}
-use Rattle.std.proofs.lemmas.Bool.{and_from, and_parts}
+use Rattle.std.proofs.lemmas.Bool.{and_from, and_parts, not-true}
 use Rattle.std.proofs.lemmas.List.Folds.{list_all-append, list_all-map}
 use Rattle.nxf_tree.specs.declared.tree.SortName.{SortName}
 use Rattle.nxf_tree.specs.declared.tree.SortName.TheVariants.{Individual, User}
@@ -22,17 +22,19 @@ use Rattle.nxf_tree.specs.Names.{same_text}
 use Rattle.nxf_tree.specs.Counting.{implies, has, all_different}
 use Rattle.nxf_tree.specs.Signature.{same_sort, same_index, sort_names, symbol_names, index_names}
 use Rattle.nxf_tree.specs.Faults.{first_fault}
-use Rattle.nxf_tree.specs.Sorting.{SymbolType, Language, modal_language, statement_is_sorted, IsWellSorted, in_range, gives_in_range, HasGoodSymbols}
+use Rattle.nxf_tree.specs.Sorting.{SymbolType, Language, modal_language, statement_is_sorted, IsWellSorted, in_range, gives_in_range}
+use Rattle.nxf_tree.specs.WellFormed.{HasDifferentNames, HasSortsInRange}
 use Rattle.nxf_tree.specs.Specification.{Specification}
 use Rattle.nxf_tree.specs.Occurrences.{Use, Occurrence, uses, sorts, indexes, declared, declared_sorts, statement_occurrences, occurrences_in}
 use Rattle.nxf_tree.specs.SignatureOf.{firsts, same_symbol, type_in, typed, symbols_of, is_individual, mentions_individual, has_individual, sorts_of_file, is_named, indexes_of_file, sort_number, symbol_entry, signature_of}
 use Rattle.nxf_tree.specs.SortFaults.{unknown_sort, unknown_sorts, gives_list, type_statement_fault, formula_statement_fault, overrides_fault, sort_fault_of}
-use Rattle.nxf_meaning.specs.Laws.{HasDifferentNames}
 use Rattle.nxf_meaning.proofs.Spelling.{same_text-refl, same_text-true, both_ways, true-false}
 use Rattle.nxf_meaning.proofs.Apart.{sort-true, index-true}
 use Rattle.nxf_meaning.proofs.SortedFormulas.{same_sort-refl}
 use Rattle.nxf_meaning.proofs.Firsts.{split_bool, or-true, firsts-different, firsts-none, has-filter, has-firsts, all-by_has, firsts-all, implies-any}
 use Rattle.nxf_meaning.proofs.NoFault.{some-none, or-none, map-none, test-passes, index-append, no-fault}
+use Rattle.nxf_meaning.proofs.GoodSymbols.{users-different, different-together}
+use Rattle.nxf_meaning.proofs.NamesOfFile.{is_apart, apart, statements-apart, disjoint, walked}
 use Rattle.nxf_meaning.proofs.Declared.{declared-known, is_plain_gives, is_plain_type, is_good_use, statements-good}
 
 -- the tests don't ask which is first
@@ -126,23 +128,52 @@ module _ (spec : Specification) (file : File) (ok : sort_fault_of spec file ≡ 
   index-names : index_names sig.indexes ≡ indexes_of_file ss
   index-names = indexes-named (λ i. record { name = i; schemes = spec.schemes i }) (λ i. refl) (indexes_of_file ss)
 
-  -- names differ
-  pub different : HasDifferentNames sig
-  different = record {
-    sorts = ap (all_different same_sort) sort-names
-        ∙ front-different same_sort (has_individual ss) Individual _ (firsts-none same_sort Individual (declared_sorts ss) (no-individual ss)) (firsts-different same_sort same_sort-sym (declared_sorts ss));
-    symbols = ap (all_different same_text) (symbols-named (sorts_of_file ss) spec (declared ss) (firsts same_symbol (uses (occurrences_in ss))))
-        ∙ (named-different (firsts same_symbol (uses (occurrences_in ss))) ∙ firsts-different same_symbol (λ u v. same_text-sym u.name v.name) (uses (occurrences_in ss)));
-    indexes = ap (all_different same_index) index-names
-        ∙ front-different same_index (has same_index Plain (indexes (occurrences_in ss))) Plain _ (firsts-none same_index Plain (filter is_named (indexes (occurrences_in ss))) (no-plain (indexes (occurrences_in ss)))) (firsts-different same_index same_index-sym (filter is_named (indexes (occurrences_in ss))));
-  }
-
   -- the three lists of faults are empty
   no-typing-fault : first_fault (type_statement_fault L) 1 [] ss ≡ None
   no-typing-fault = (or-none _ _ ok).0
 
   no-formula-fault : first_fault (λ before s. formula_statement_fault L (declared ss) s) 1 [] ss ≡ None
   no-formula-fault = (or-none _ _ (or-none (first_fault (type_statement_fault L) 1 [] ss) _ ok).1).0
+
+  -- names differ
+  names-parted : symbol_names sig.symbols ≡ map (λ v. v.name) (firsts same_symbol (uses (occurrences_in ss)))
+  names-parted = symbols-named (sorts_of_file ss) spec (declared ss) (firsts same_symbol (uses (occurrences_in ss)))
+
+  declared-apart : apart L (declared ss) (declared ss) ≡ true
+  declared-apart = alike (declared ss) (walked L 1 [] ss no-typing-fault refl)
+    where
+      unknown-name : (f : List ℕ) → has same_sort (User f) (declared_sorts ss) ≡ false → L.knows_sort (User f) ≡ false
+      unknown-name f e = ap (has same_sort (User f)) sort-names ∙ by (has_individual ss)
+        where
+          by : (c : Bool) → has same_sort (User f) (if c then Individual ∷ firsts same_sort (declared_sorts ss) else firsts same_sort (declared_sorts ss)) ≡ false
+          by true = firsts-none same_sort (User f) (declared_sorts ss) e
+          by false = firsts-none same_sort (User f) (declared_sorts ss) e
+      alike : (us : List Use) → disjoint us (declared_sorts ss) ≡ true → apart L (declared ss) us ≡ true
+      alike [] d = refl
+      alike (u ∷ us) d =
+          let parts : (not (has same_sort (User u.name) (declared_sorts ss)) ≡ true) × (disjoint us (declared_sorts ss) ≡ true) = and_parts _ _ d in
+          and_from _ _ (ap not (unknown-name u.name (not-true _ parts.0))) (alike us parts.1)
+
+  uses-apart : apart L (declared ss) (uses (occurrences_in ss)) ≡ true
+  uses-apart = statements-apart L (declared ss) 1 [] ss no-formula-fault declared-apart
+
+  apart-from-sorts : (vs : List Use) → apart L (declared ss) vs ≡ true → list_all (λ s. not (has same_sort s (sort_names sig.sorts))) (map User (map (λ v. v.name) vs)) ≡ true
+  apart-from-sorts [] h = refl
+  apart-from-sorts (v ∷ vs) h = let parts : (not (L.knows_sort (User v.name)) ≡ true) × (apart L (declared ss) vs ≡ true) = and_parts _ _ h in and_from _ _ parts.0 (apart-from-sorts vs parts.1)
+
+  pub different : HasDifferentNames sig
+  different = record {
+    names = different-together same_sort (map User (symbol_names sig.symbols)) (sort_names sig.sorts)
+        (users-different (symbol_names sig.symbols)
+        ∙ (ap (all_different same_text) names-parted
+        ∙ (named-different (firsts same_symbol (uses (occurrences_in ss))) ∙ firsts-different same_symbol (λ u v. same_text-sym u.name v.name) (uses (occurrences_in ss)))))
+        (ap (all_different same_sort) sort-names
+        ∙ front-different same_sort (has_individual ss) Individual _ (firsts-none same_sort Individual (declared_sorts ss) (no-individual ss)) (firsts-different same_sort same_sort-sym (declared_sorts ss)))
+        (ap (λ l. list_all (λ s. not (has same_sort s (sort_names sig.sorts))) (map User l)) names-parted
+        ∙ apart-from-sorts (firsts same_symbol (uses (occurrences_in ss))) (firsts-all same_symbol (is_apart L (declared ss)) (uses (occurrences_in ss)) uses-apart));
+    indexes = ap (all_different same_index) index-names
+        ∙ front-different same_index (has same_index Plain (indexes (occurrences_in ss))) Plain _ (firsts-none same_index Plain (filter is_named (indexes (occurrences_in ss))) (no-plain (indexes (occurrences_in ss)))) (firsts-different same_index same_index-sym (filter is_named (indexes (occurrences_in ss))));
+  }
 
   -- the sorts of each symbol are known
   abbrev known : List SortName → Bool
@@ -228,8 +259,8 @@ module _ (spec : Specification) (file : File) (ok : sort_fault_of spec file ≡ 
       let types : (known u.type.args ≡ true) × (known (gives_list u.type.gives) ≡ true) = and_parts _ _ parts.0 in
       and_from _ _ (and_from _ _ (args-in-range u.type.args types.0) (gives-range u.type.gives types.1)) (entries-in-range us parts.1)
 
-  pub good-symbols : HasGoodSymbols sig
-  good-symbols = record { names = different.symbols; numbers = entries-in-range (symbols_of ss) all-known }
+  pub in-range : HasSortsInRange sig
+  in-range = entries-in-range (symbols_of ss) all-known
 
   -- each index is known
   index-known : (i : IndexName) → has same_index i (indexes (occurrences_in ss)) ≡ true → L.knows_index i ≡ true
