@@ -22,6 +22,7 @@ use Rattle.nxf_tree.specs.declared.tree.File.{File}
 use Rattle.nxf_tree.specs.Shapes.{Not1, Pair2, Quant1, Modal1}
 use Rattle.nxf_tree.specs.Names.{same_text}
 use Rattle.nxf_tree.specs.Problem.{role_of, statement_of}
+use Rattle.nxf_tree.specs.SignatureOf.{firsts}
 
 abbrev pub has_no_arguments : List Term → Bool
 has_no_arguments [] = true
@@ -77,8 +78,7 @@ abbrev mutual
 
 -- each text once, in the order of first occurrence
 abbrev pub each_once : List (List ℕ) → List (List ℕ)
-each_once [] = []
-each_once (x ∷ xs) = x ∷ filter (λ y. not (same_text x y)) (each_once xs)
+each_once = firsts same_text
 
 abbrev mutual
   -- whether a box or a diamond occurs
