@@ -1,0 +1,4 @@
+pub mod Levels
+pub mod Complete
+pub mod Sound
+pub mod Exact
