@@ -2,3 +2,9 @@ pub mod Levels
 pub mod Complete
 pub mod Sound
 pub mod Exact
+pub mod Regular
+pub mod Words
+pub mod Appending
+pub mod Answering
+pub mod Loading
+pub mod Ending

@@ -66,7 +66,10 @@ fn letters_len(bytes: &[u8]) -> usize
     ensures value { result ≡ prefix_len is_letter bytes.now }
     ensures within { result ≤ length bytes.now }
 {
-    bytes.iter().take_while(|byte| byte.is_ascii_lowercase()).count()
+    bytes
+        .iter()
+        .take_while(|byte| byte.is_ascii_lowercase())
+        .count()
 }
 
 /// The bytes that are left. It copies none.

@@ -18,8 +18,7 @@ const FILE_LIMIT: usize = 16_777_216;
 /// The levels of nesting below a formula that stands alone.
 const LEVELS: usize = 999;
 
-const HEAD: &[u8] =
-    b"tff(l,logic,$modal == [$modalities == $modal_system_K]).\ntff(c,conjecture,";
+const HEAD: &[u8] = b"tff(l,logic,$modal == [$modalities == $modal_system_K]).\ntff(c,conjecture,";
 
 /// A unit one deeper.
 #[cycle(unit)]
