@@ -5,7 +5,7 @@ ghost use Rattle.nxf_base.specs.Causes.{Rose};
 ghost use Rattle.nxf_base.specs.Shelf.{Keeps};
 ghost use Rattle.nxf_tree.specs.Depth.{formula_depth};
 ghost use Rattle.nxf_tree.specs.FirstForm.{is_first};
-ghost use Rattle.nxf_tree.specs.Text.{text_of};
+ghost use Rattle.nxf_tree.specs.Text.{text_of, is_printable};
 ghost use Rattle.nxf_run.specs.Answer.{IsTranslation, Translates, embed_stdin, stdin};
 ghost use Rattle.nxf_run.specs.Steps.{HasOtherForm, Loaded, LoadRefuses, FileTranslates, FileRefuses, Refuses};
 
@@ -120,6 +120,7 @@ fn translate_formula(alloc: Global, conjecture: &Formula) -> Result<Vec<u8>, Sta
 }
 
 fn print(alloc: Global, file: &File) -> Result<Vec<u8>, Status>
+    requires printable { IsTrue (is_printable file.now) }
     ensures { MatchResult result (λ text. text.items ≡ text_of file.now) (λ s. s ≡ Status.Memory) }
 {
     match print_file(alloc, file) {
