@@ -1,0 +1,11 @@
+pub mod Levels
+pub mod Complete
+pub mod Sound
+pub mod Exact
+pub mod Regular
+pub mod Printable
+pub mod Words
+pub mod Appending
+pub mod Answering
+pub mod Loading
+pub mod Ending
