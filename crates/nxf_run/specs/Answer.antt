@@ -9,6 +9,7 @@ use Rattle.nxf_tree.specs.Countermodels.{IsKripkeCountermodel, IsClassicalCounte
 use Rattle.nxf_tree.specs.ClassicalSignature.{classical_signature_of}
 use Rattle.nxf_tree.specs.FirstForm.{first_signature, first_problem}
 use Rattle.nxf_tree.specs.Problem.{problem_of}
+use Rattle.nxf_tree.specs.Profile.{Problem, problem_in}
 use Rattle.nxf_tree.specs.Text.{text_of}
 use Rattle.nxf_run.specs.FirstGrammar.{HasFirstForm}
 
@@ -38,10 +39,12 @@ pub data IsAnswer (told : Option Files) : List (List ℕ) → Answer → Type 0 
   other_form : {bytes : List ℕ} → Holds told stdin (Some bytes) → ((f : Formula) → HasFirstForm bytes f → ⊥) → IsAnswer told embed_stdin (Err status.NotYet)
   translated : {bytes : List ℕ} {f : Formula} → Holds told stdin (Some bytes) → HasFirstForm bytes f → IsAnswer told embed_stdin (Ok (translation f))
 
--- The text is the translation of a conjecture, and means what it means: over each Kripke structure of its signature and
--- the classical structure that corresponds to it, the countermodels of the one problem are those of the other.
+-- The text is the translation of a conjecture, and means what it means: the problem is in the profile, with this signature,
+-- and over each Kripke structure of the signature and the classical structure that corresponds to it, the countermodels of
+-- the one problem are those of the other.
 pub record IsTranslation (conjecture : Formula) (text : List ℕ) : Type 0 where
   pub text_is : text ≡ translation conjecture
+  pub in_profile : (problem : Problem) × (problem_in (first_problem conjecture) ≡ Ok problem) × (problem.signature ≡ first_signature conjecture)
   pub keeps_countermodels : (K : KripkeStructure) (S : ClassicalStructure) → IsOver (first_signature conjecture) K → Corresponds K S →
       IsClassicalCountermodel (classical_signature_of (first_signature conjecture)) (problem_of (first_signature conjecture) (first_problem conjecture)) S
       ↔ IsKripkeCountermodel (first_signature conjecture) (first_problem conjecture) K

@@ -1,7 +1,8 @@
-use Rattle.std.proofs.Common.{◌≡◌, ◌∙◌, sym, ap}
+use Rattle.std.proofs.Common.{◌≡◌, ◌∙◌, sym, ap, refl}
 use Rattle.std.proofs.lemmas.Result.{MatchResult-weaker}
 use Rattle.nxf_tree.specs.FirstForm.{first_signature, first_problem}
 use Rattle.nxf_tree.specs.Text.{text_of, is_printable}
+use Rattle.nxf_meaning.proofs.FirstProfile.{reading, first-profile}
 use Rattle.nxf_run.proofs.Printable.{printable}
 use Rattle.nxf_run.proofs.prepare.translate_formula.Goals as goal
 
@@ -11,5 +12,5 @@ print-requires c = record { printable = ap is_printable c.in-Ok.ensures.written 
 pub returns-in-Ok : goal.returns-in-Ok
 returns-in-Ok c =
     MatchResult-weaker c.print.result c.print.ensures
-    (λ text h. record { text_is = h ∙ ap text_of c.in-Ok.ensures.written; keeps_countermodels = rw c.in-Ok.ensures.written at c.in-Ok.ensures.keeps_countermodels })
+    (λ text h. record { text_is = h ∙ ap text_of c.in-Ok.ensures.written; in_profile = (reading c.args.conjecture.now c.requires.first, first-profile c.args.conjecture.now c.requires.first, refl); keeps_countermodels = rw c.in-Ok.ensures.written at c.in-Ok.ensures.keeps_countermodels })
     (λ s h. h)
