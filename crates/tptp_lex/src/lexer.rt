@@ -20,19 +20,21 @@ pub enum LexError {
     Memory,
 }
 
-/// The tokens of a text, in order. They don't overlap.
+/// The tokens of a text, in order. They don't overlap, and there are fewer than 2^32.
 #[derive(Debug, Drop)]
 pub struct Tokens {
     tokens: Vec<Token>,
 }
 
 impl Model for Tokens {
-    ghost use Rattle.std.specs.Prelude.{List};
+    ghost use Rattle.std.specs.Prelude.{List, length, ◌<◌, ◌^◌};
     ghost use Rattle.tptp_lex.specs.declared.token.Token.{Token};
 
     ghost Value = { List Token };
 
     ghost view = { λ t. t.tokens.items };
+
+    ghost invariant = { λ t. length t.tokens.items < 2 ^ 32 };
 }
 
 impl Tokens {

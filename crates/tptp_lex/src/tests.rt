@@ -124,12 +124,16 @@ fn first_same(alloc: Global, left: &[u8], right: &[u8]) -> Option<bool> {
     if left.len() >= 1 << 32 || right.len() >= 1 << 32 {
         return None;
     }
-    match (lex(alloc, left), lex(alloc, right)) {
-        (Ok(ours), Ok(theirs)) if ours.len() > 0 && theirs.len() > 0 => {
-            Some(same_token(left, ours.get(0), right, theirs.get(0)))
-        }
-        _ => None,
+    let Ok(ours) = lex(alloc, left) else {
+        return None;
+    };
+    let Ok(theirs) = lex(alloc, right) else {
+        return None;
+    };
+    if ours.len() == 0 || theirs.len() == 0 {
+        return None;
     }
+    Some(same_token(left, ours.get(0), right, theirs.get(0)))
 }
 
 #[test]

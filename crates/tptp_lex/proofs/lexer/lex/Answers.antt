@@ -3,6 +3,7 @@ use Rattle.std.proofs.lemmas.Bool.{eqb-false, eqb-true}
 use Rattle.std.proofs.lemmas.List.{take_rest}
 use Rattle.tptp_lex.proofs.Pieces.{so_far_more, all_lexed, bad_place}
 use Rattle.tptp_lex.proofs.OneAnswer.{lexed_only, refused_only}
+use Rattle.tptp_lex.proofs.Spans.{no_more_tokens}
 use Rattle.tptp_lex.proofs.lexer.lex.Goals as goal
 
 pub refusal-requires : goal.refusal-requires
@@ -18,3 +19,9 @@ returns-clause-lexed_exactly c = lexed_only c.args.bytes.now (Ok c.loop-rest.tok
 
 pub returns-clause-refused_exactly : goal.returns-clause-refused_exactly
 returns-clause-refused_exactly c = refused_only c.args.bytes.now (Ok c.loop-rest.tokens.items) (all_lexed c.args.bytes.now c.loop-rest.rest.now c.loop-rest.at c.loop-rest.tokens.items c.loop-rest.invariant (eqb-true (length c.loop-rest.rest.now) 0 (sym c.loop-rest-test.ensures))) tt
+
+pub invariant_of-result : goal.invariant_of-result
+invariant_of-result c =
+    let lexed = all_lexed c.args.bytes.now c.loop-rest.rest.now c.loop-rest.at c.loop-rest.tokens.items c.loop-rest.invariant (eqb-true (length c.loop-rest.rest.now) 0 (sym c.loop-rest-test.ensures)) in
+    let few = no_more_tokens c.args.bytes.now c.loop-rest.tokens.items lexed in
+    omega (arith, few, c.requires)
