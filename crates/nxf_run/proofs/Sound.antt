@@ -90,6 +90,11 @@ pub record ReadFirst (n : ℕ) (i : List ℕ) (f : Formula) (rest : List ℕ) : 
   pub front : i ≡ written ++ rest
   pub is : IsFirst n written f
 
+-- what is written between two texts
+between : (open_text close_text i mid written last rest : List ℕ) → i ≡ open_text ++ mid → mid ≡ written ++ last → last ≡ close_text ++ rest → i ≡ open_text ++ written ++ close_text ++ rest
+between open_text close_text i mid written last rest h k l =
+    h ∙ ap (λ (x : List ℕ). open_text ++ x) (k ∙ ap (λ (x : List ℕ). written ++ x) l) ∙ sym (append_assoc open_text written (close_text ++ rest)) ∙ sym (append_assoc (open_text ++ written) close_text rest)
+
 abbrev SoundUnit : ℕ → Parser Formula → Type 0
 SoundUnit n one = (i : List ℕ) (f : Formula) (rest : List ℕ) → one i ≡ Some (f, rest) → ReadUnit n i f rest
 
@@ -135,7 +140,7 @@ module _ (n : ℕ) (one : Parser Formula) (sound : SoundUnit n one) where
       moved (λ (x : Formula) j. ReadUnit (suc n) i x j) (b.value, c.rest) (f, rest) c.then
       (record {
         written = codes "( " ++ s.written ++ codes " )";
-        front = expected (codes "( ") i a.rest a.value a.first ∙ ap (λ (x : List ℕ). codes "( " ++ x) (s.front ∙ ap (λ (x : List ℕ). s.written ++ x) (expected (codes " )") b.rest c.rest c.value c.first) ∙ sym {a = (s.written ++ codes " )") ++ c.rest} (append_assoc s.written (codes " )") c.rest));
+        front = between (codes "( ") (codes " )") i a.rest s.written b.rest c.rest (expected (codes "( ") i a.rest a.value a.first) s.front (expected (codes " )") b.rest c.rest c.value c.first);
         is = g.brackets s.is;
       })
 
@@ -188,7 +193,6 @@ lines_sound n i f rest h =
     moved (λ (x : Formula) j. ReadLines n i x j) (b.value, c.rest) (f, rest) c.then
     (record {
       written = s.written;
-      parts = expected head i a.rest a.value a.first ∙ ap (λ (x : List ℕ). head ++ x) (s.front ∙ ap (λ (x : List ℕ). s.written ++ x) (expected (codes ").") b.rest c.rest c.value c.first))
-          ∙ sym (append_assoc head s.written (codes ")." ++ c.rest)) ∙ sym (append_assoc (head ++ s.written) (codes ").") c.rest);
+      parts = between head (codes ").") i a.rest s.written b.rest c.rest (expected head i a.rest a.value a.first) s.front (expected (codes ").") b.rest c.rest c.value c.first);
       is = s.is;
     })

@@ -10,3 +10,6 @@ mod top_call;
 
 pub use reader::{one_formula, read_first};
 pub use top_call::{one_answer, run};
+
+#[cfg(test)]
+mod tests;
