@@ -3,7 +3,7 @@ use Rattle.std.proofs.Common.{◌≡◌, ℕ, zero, suc, Bool, true, false, List
 use Rattle.std.specs.Prelude.{◌&&◌, ◌||◌, if◌then◌else◌, map, length, Option, None, Some, is_some}
 use Rattle.std.specs.Option.{option_or, option_map}
 use Rattle.std.specs.List.{list_all}
-use Rattle.std.proofs.lemmas.Bool.{and_from}
+use Rattle.std.proofs.lemmas.Bool.{and_from, or_left, or_right}
 use Rattle.std.proofs.lemmas.List.Folds.{list_all-append}
 use Rattle.nxf_base.specs.declared.status.SortKind.TheVariants.{DoubleName}
 use Rattle.nxf_tree.specs.declared.tree.SortName.{SortName}
@@ -106,10 +106,6 @@ individuals-plain (suc n) = individuals-plain n
 abbrev pub is_good_use : List Use → Use → Bool
 is_good_use us u = is_some (type_in us u.name) || is_plain_type u.type
 
-or-right : (a b : Bool) → b ≡ true → a || b ≡ true
-or-right true b h = refl
-or-right false b h = h
-
 module _ (us : List Use) where
   abbrev good : List Use → Bool
   good = list_all (is_good_use us)
@@ -118,7 +114,7 @@ module _ (us : List Use) where
   good-append a b h k = list_all-append (is_good_use us) a b ∙ and_from _ _ h k
 
   use-good : (f : List ℕ) (n : ℕ) (gives : Option SortName) → is_plain_gives gives ≡ true → is_good_use us (use_with f n gives) ≡ true
-  use-good f n gives h = or-right _ _ (and_from _ _ (individuals-plain n) h)
+  use-good f n gives h = or_right _ _ (and_from _ _ (individuals-plain n) h)
 
   mutual
     term-good : (t : Term) → good (term_uses t) ≡ true
@@ -179,12 +175,9 @@ module _ (us : List Use) where
   statements-good [] h = refl
   statements-good (Annotated name role (IsTyping (Symbol f args gives)) ∷ ss) h =
       and_from _ _
-      (or-left _ _ (h f (found (same_text f f) (record { args = args; gives = gives }) (type_in (declared ss) f) (same_text-refl f))))
+      (or_left _ _ (h f (found (same_text f f) (record { args = args; gives = gives }) (type_in (declared ss) f) (same_text-refl f))))
       (statements-good ss (λ g k. h g (later (same_text f g) (record { args = args; gives = gives }) (type_in (declared ss) g) k)))
     where
-      or-left : (a b : Bool) → a ≡ true → a || b ≡ true
-      or-left true b e = refl
-      or-left false b e = absurd (true-false (sym e))
       found : (b : Bool) (t : SymbolType) (o : Option SymbolType) → b ≡ true → is_some (if b then Some t else o) ≡ true
       found true t o e = refl
       found false t o e = absurd (true-false (sym e))

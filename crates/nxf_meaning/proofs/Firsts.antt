@@ -2,7 +2,7 @@
 use Rattle.std.proofs.Common.{◌≡◌, Bool, true, false, List, [], ◌∷◌, refl, sym, ap, ◌∙◌}
 use Rattle.std.specs.Prelude.{◌&&◌, ◌||◌, not, if◌then◌else◌, map, filter}
 use Rattle.std.specs.List.{list_all, list_any}
-use Rattle.std.proofs.lemmas.Bool.{and_from}
+use Rattle.std.proofs.lemmas.Bool.{and_from, or_right}
 use Rattle.nxf_tree.specs.Counting.{implies, has, all_different}
 use Rattle.nxf_tree.specs.SignatureOf.{firsts}
 use Rattle.nxf_meaning.proofs.Spelling.{true-false}
@@ -11,10 +11,6 @@ use Rattle.nxf_meaning.proofs.Spelling.{true-false}
 pub split_bool : {P : Type 0} (b : Bool) → (b ≡ true → P) → (b ≡ false → P) → P
 split_bool true f g = f refl
 split_bool false f g = g refl
-
-pub or-true : (a b : Bool) → b ≡ true → a || b ≡ true
-or-true true b h = refl
-or-true false b h = h
 
 module _ {A : Type 0} (same : A → A → Bool) where
   -- what is dropped from a list is not in it
@@ -57,7 +53,7 @@ module _ {A : Type 0} (same : A → A → Bool) where
   has-filter q z (y ∷ ys) k h = split_bool (same y z)
       (λ e. rw (k y e) (rw e refl))
       (λ e. split_bool (q y)
-      (λ p. rw p (or-true (same y z) _ (has-filter q z ys k (sym (rw e refl) ∙ h))))
+      (λ p. rw p (or_right (same y z) _ (has-filter q z ys k (sym (rw e refl) ∙ h))))
       (λ p. rw p (has-filter q z ys k (sym (rw e refl) ∙ h))))
 
   -- all that occurs stands among them
@@ -65,12 +61,12 @@ module _ {A : Type 0} (same : A → A → Bool) where
   has-firsts alike z [] h = h
   has-firsts alike z (x ∷ xs) h = split_bool (same x z)
       (λ e. rw e refl)
-      (λ e. or-true (same x z) _ (has-filter (λ y. not (same x y)) z (firsts same xs) (λ y k. ap not (alike x y z k ∙ e)) (has-firsts alike z xs (sym (rw e refl) ∙ h))))
+      (λ e. or_right (same x z) _ (has-filter (λ y. not (same x y)) z (firsts same xs) (λ y k. ap not (alike x y z k ∙ e)) (has-firsts alike z xs (sym (rw e refl) ∙ h))))
 
   -- a test that each thing of a list passes, since it is in the list
   pub all-by_has : ((x : A) → same x x ≡ true) → (q : A → Bool) (xs : List A) → ((x : A) → has same x xs ≡ true → q x ≡ true) → list_all q xs ≡ true
   all-by_has r q [] h = refl
-  all-by_has r q (x ∷ xs) h = rw (h x (rw (r x) refl)) (all-by_has r q xs (λ y k. h y (or-true (same x y) _ k)))
+  all-by_has r q (x ∷ xs) h = rw (h x (rw (r x) refl)) (all-by_has r q xs (λ y k. h y (or_right (same x y) _ k)))
 
 pub filter-all : {A : Type 0} (p q : A → Bool) (xs : List A) → list_all p xs ≡ true → list_all p (filter q xs) ≡ true
 filter-all p q [] h = refl
@@ -90,4 +86,4 @@ pub implies-any : {A : Type 0} (p : A → Bool) (b : Bool) (xs : List A) → (li
 implies-any p b [] h = refl
 implies-any p b (x ∷ xs) h = split_bool (p x)
     (λ e. let holds : b ≡ true = h (rw e refl) in rw e (and_from b _ holds (implies-any p b xs (λ k. holds))))
-    (λ e. rw e (implies-any p b xs (λ k. h (or-true (p x) _ k))))
+    (λ e. rw e (implies-any p b xs (λ k. h (or_right (p x) _ k))))

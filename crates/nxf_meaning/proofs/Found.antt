@@ -6,6 +6,7 @@ use Rattle.nxf_tree.specs.declared.tree.SortName.TheVariants.{Individual, User}
 use Rattle.nxf_tree.specs.declared.tree.IndexName.{IndexName}
 use Rattle.nxf_tree.specs.declared.tree.IndexName.TheVariants.{Plain, Named}
 use Rattle.nxf_tree.specs.declared.tree.Signature.{Signature}
+use Rattle.std.proofs.lemmas.Bool.{or_right, not-true}
 use Rattle.nxf_tree.specs.Names.{same_text, actual_name}
 use Rattle.nxf_tree.specs.Counting.{has, all_different}
 use Rattle.nxf_tree.specs.Signature.{same_sort, same_index, sort_names, existence_sorts, symbol_names, index_names}
@@ -14,17 +15,13 @@ use Rattle.nxf_tree.specs.Structures.{table_names}
 use Rattle.nxf_tree.specs.ClassicalSignature.{classical_signature_of}
 use Rattle.nxf_meaning.specs.Laws.{HasDifferentClassicalNames, Found, NamesFound, FoundLaw}
 use Rattle.nxf_meaning.proofs.Spelling.{same_text-refl, never, true-false}
-use Rattle.nxf_meaning.proofs.Firsts.{split_bool, or-true}
+use Rattle.nxf_meaning.proofs.Firsts.{split_bool}
 use Rattle.nxf_meaning.proofs.ProfileLaw.{same_text-sym, same_sort-sym, same_index-sym, same_index-refl}
 use Rattle.nxf_meaning.proofs.SortedFormulas.{same_sort-refl}
 use Rattle.nxf_tree.specs.WellFormed.{HasDifferentNames}
 use Rattle.nxf_meaning.proofs.GoodSymbols.{DifferentParts, parts-of-names}
 use Rattle.nxf_meaning.proofs.NamesDiffer.{names-differ, existence-sorts-different}
 use Rattle.nxf_meaning.proofs.Types.{split}
-
-not-true : (b : Bool) → not b ≡ true → b ≡ false
-not-true true h = absurd (true-false (sym h))
-not-true false h = refl
 
 module _ {N A : Type 0} (same : N → N → Bool) (none : A) (reflexive : (n : N) → same n n ≡ true) (symmetric : (m n : N) → same m n ≡ same n m) where
   -- what is the same as a name at some place is in the list
@@ -33,7 +30,7 @@ module _ {N A : Type 0} (same : N → N → Bool) (none : A) (reflexive : (n : N
   listed (m ∷ names) zero name n h e =
       let is : m ≡ name = cc in
       ap (λ b. b || has same n names) (ap (λ x. same x n) is ∙ (symmetric name n ∙ e))
-  listed (m ∷ names) (suc k) name n h e = or-true (same m n) _ (listed names k name n h e)
+  listed (m ∷ names) (suc k) name n h e = or_right (same m n) _ (listed names k name n h e)
 
   pub found : (names : List N) → all_different same names ≡ true → (things : List A) → Found same none names things
   found [] d things k name thing h t = absurd cc

@@ -3,7 +3,7 @@ use Rattle.std.proofs.Common.{◌≡◌, ℕ, suc, ◌+◌, Bool, true, false, L
 use Rattle.std.specs.Prelude.{◌&&◌, ◌||◌, not, if◌then◌else◌, map, filter, Option, None, Some, is_some}
 use Rattle.std.specs.Option.{option_or, option_map, unwrap_or}
 use Rattle.std.specs.List.{list_all, list_any, position_or_len}
-use Rattle.std.proofs.lemmas.Bool.{and_from, and_parts, not-true}
+use Rattle.std.proofs.lemmas.Bool.{or_left, or_right, and_from, and_parts, not-true}
 use Rattle.std.proofs.lemmas.List.Folds.{list_all-append, list_all-map}
 use Rattle.nxf_tree.specs.declared.tree.SortName.{SortName}
 use Rattle.nxf_tree.specs.declared.tree.SortName.TheVariants.{Individual, User}
@@ -31,7 +31,7 @@ use Rattle.nxf_tree.specs.SortFaults.{unknown_sort, unknown_sorts, gives_list, t
 use Rattle.nxf_meaning.proofs.Spelling.{same_text-refl, same_text-true, both_ways, true-false}
 use Rattle.nxf_meaning.proofs.Apart.{sort-true, index-true}
 use Rattle.nxf_meaning.proofs.SortedFormulas.{same_sort-refl}
-use Rattle.nxf_meaning.proofs.Firsts.{split_bool, or-true, firsts-different, firsts-none, has-filter, has-firsts, all-by_has, firsts-all, implies-any}
+use Rattle.nxf_meaning.proofs.Firsts.{split_bool, firsts-different, firsts-none, has-filter, has-firsts, all-by_has, firsts-all, implies-any}
 use Rattle.nxf_meaning.proofs.NoFault.{some-none, or-none, map-none, test-passes, index-append, no-fault}
 use Rattle.nxf_meaning.proofs.GoodSymbols.{users-different, different-together}
 use Rattle.nxf_meaning.proofs.NamesOfFile.{is_apart, apart, statements-apart, disjoint, walked}
@@ -232,11 +232,7 @@ module _ (spec : Specification) (file : File) (ok : sort_fault_of spec file ≡ 
   all-known = each-known (firsts same_symbol (uses (occurrences_in ss)))
       (firsts-all same_symbol (is_good_use (declared ss)) (uses (occurrences_in ss)) (statements-good (declared ss) ss (λ f h. h)))
       (sym (list_all-map (λ u. implies (mentions_individual u) (has_individual ss)) (typed (declared ss)) (firsts same_symbol (uses (occurrences_in ss))))
-      ∙ implies-any mentions_individual (has_individual ss) (symbols_of ss) (λ h. or-left _ _ h))
-    where
-      or-left : (a b : Bool) → a ≡ true → a || b ≡ true
-      or-left true b h = refl
-      or-left false b h = absurd (true-false (sym h))
+      ∙ implies-any mentions_individual (has_individual ss) (symbols_of ss) (λ h. or_left _ _ h))
 
   sort-in-range : (s : SortName) → L.knows_sort s ≡ true → in_range sig.sorts (sort_number (sorts_of_file ss) s) ≡ true
   sort-in-range s h = number-in-range entry (sorts_of_file ss) s (sym (ap (has same_sort s) sort-names) ∙ h)
@@ -267,7 +263,7 @@ module _ (spec : Specification) (file : File) (ok : sort_fault_of spec file ≡ 
   index-known i h = ap (has same_index i) index-names ∙ by i h
     where
       front : (b : Bool) (j : IndexName) (is : List IndexName) → has same_index j is ≡ true → has same_index j (if b then Plain ∷ is else is) ≡ true
-      front true j is k = or-true _ _ k
+      front true j is k = or_right _ _ k
       front false j is k = k
       by : (j : IndexName) → has same_index j (indexes (occurrences_in ss)) ≡ true → has same_index j (indexes_of_file ss) ≡ true
       by Plain k = ap (λ b. has same_index Plain (if b then Plain ∷ firsts same_index (filter is_named (indexes (occurrences_in ss))) else firsts same_index (filter is_named (indexes (occurrences_in ss))))) k

@@ -1,4 +1,5 @@
--- Which files are in the profile, and what such a file is read as: the parts of its formulas, its specification and its signature.
+-- Which files are in the profile, and what such a file is read as: the parts of its formulas, its specification and its signature. The file is a
+-- gathered one, in which what the includes bring stands in their place.
 use Rattle.std.specs.Prelude.{◌≡◌, ℕ, List, Option, None, Some, Result, Ok, Err}
 use Rattle.nxf_base.specs.declared.status.RoleKind.{RoleKind}
 use Rattle.nxf_base.specs.declared.status.SpecKind.{SpecKind}

@@ -1,6 +1,7 @@
 -- The first fault of a file's sorts, with the number of its statement and a name: type statements, then formulas, then overrides.
 use Rattle.std.specs.Prelude.{ℕ, suc, Bool, true, false, ◌&&◌, not, nat_eq, if◌then◌else◌, List, [], ◌∷◌, ◌++◌, map, codes, length, Option, None, Some, is_some}
 use Rattle.std.specs.Option.{option_or, option_map}
+use Rattle.std.specs.Cmp.Lexicographic.{pointwise}
 use Rattle.nxf_base.specs.declared.status.SortKind.{SortKind}
 use Rattle.nxf_base.specs.declared.status.SortKind.TheVariants.{DoubleName, UnknownSort, Mismatch, FreeVariable, UnknownOverride}
 use Rattle.nxf_tree.specs.declared.tree.SortName.{SortName}
@@ -46,18 +47,14 @@ unknown_sorts L [] = None
 unknown_sorts L (s ∷ ss) = option_or (unknown_sort L s) (unknown_sorts L ss)
 
 -- Type statements. A declaration that equals an earlier one is accepted.
+-- the sort of a function's value as a list; a predicate has none
 abbrev pub gives_list : Option SortName → List SortName
 gives_list None = []
 gives_list (Some s) = s ∷ []
 
-abbrev pub same_sorts : List SortName → List SortName → Bool
-same_sorts [] [] = true
-same_sorts [] (t ∷ ts) = false
-same_sorts (s ∷ ss) [] = false
-same_sorts (s ∷ ss) (t ∷ ts) = same_sort s t && same_sorts ss ts
-
+-- whether the types are the same
 abbrev pub same_type : SymbolType → SymbolType → Bool
-same_type s t = same_sorts s.args t.args && same_sorts (gives_list s.gives) (gives_list t.gives)
+same_type s t = pointwise same_sort s.args t.args && pointwise same_sort (gives_list s.gives) (gives_list t.gives)
 
 -- a symbol that was declared before with this type, if it was
 abbrev pub declared_again : Language → List ℕ → SymbolType → Option SymbolType → Option SortFault

@@ -1,5 +1,5 @@
 -- What the logic statement of a file says, and the first of its faults.
-use Rattle.std.specs.Prelude.{ℕ, suc, Bool, true, false, ◌&&◌, ◌||◌, not, if◌then◌else◌, List, [], ◌∷◌, ◌++◌, map, codes, Option, None, Some, Result, Ok, Err}
+use Rattle.std.specs.Prelude.{ℕ, suc, Bool, true, false, ◌&&◌, ◌||◌, not, if◌then◌else◌, List, [], ◌∷◌, ◌++◌, map, codes, slice_get, Option, None, Some, Result, Ok, Err}
 use Rattle.std.specs.Option.{option_or, option_map, option_and_then, unwrap_or}
 use Rattle.std.specs.List.{list_any}
 use Rattle.nxf_base.specs.declared.status.SpecKind.{SpecKind}
@@ -181,10 +181,6 @@ override_or default (entry ∷ entries) key = if same_key entry.key key then wor
 abbrev pub words_for : Setting → List SpecEntry → SpecKey → List (List ℕ)
 words_for setting entries key = override_or (default_words setting entries) (setting_overrides setting entries) key
 
-abbrev pub first : {A : Type 0} → List A → Option A
-first [] = None
-first (x ∷ xs) = Some x
-
 -- the key of an override for the sort
 abbrev pub sort_key : SortName → SpecKey
 sort_key Individual = Dollar (codes "$i")
@@ -200,9 +196,9 @@ override_list (entry ∷ entries) =
 abbrev pub specification : ℕ → List SpecEntry → Specification
 specification k entries = record {
   place = k;
-  regime = λ s. unwrap_or (option_and_then regime_named (first (words_for Domains entries (sort_key s)))) Constant;
-  designation = λ f. unwrap_or (option_and_then designation_named (first (words_for Designations entries (Name f)))) Rigid;
-  locality = λ f. unwrap_or (option_and_then locality_named (first (words_for Terms entries (Name f)))) Local;
+  regime = λ s. unwrap_or (option_and_then regime_named (slice_get (words_for Domains entries (sort_key s)) 0)) Constant;
+  designation = λ f. unwrap_or (option_and_then designation_named (slice_get (words_for Designations entries (Name f)) 0)) Rigid;
+  locality = λ f. unwrap_or (option_and_then locality_named (slice_get (words_for Terms entries (Name f)) 0)) Local;
   schemes = λ i. schemes_of (words_for Modalities entries (Index i));
   overrides = override_list entries;
 }
