@@ -2,7 +2,7 @@
 use Rattle.std.proofs.Common.{◌≡◌, ℕ, Bool, true, false, List, [], ◌∷◌, ◌++◌, refl, sym, ap, ◌∙◌}
 use Rattle.std.specs.Prelude.{◌&&◌, ◌||◌, not, if◌then◌else◌, map, filter, length, codes, Option, None, Some, Ok}
 use Rattle.std.specs.List.{list_all, list_any}
-use Rattle.std.proofs.lemmas.Bool.{and_parts}
+use Rattle.std.proofs.lemmas.Bool.{and_parts, or_right}
 use Rattle.std.proofs.lemmas.List.{map-append, append-nil}
 use Rattle.std.proofs.lemmas.List.Folds.{list_all-append}
 use Rattle.nxf_tree.specs.declared.tree.Regime.TheVariants.{Constant}
@@ -35,7 +35,8 @@ use Rattle.nxf_tree.specs.SortFaults.{is_right_use, symbol_fault, formula_fault,
 use Rattle.nxf_tree.specs.Profile.{Problem, problem_in, with_sorts, with_spec}
 use Rattle.nxf_tree.specs.FirstForm.{is_implication, is_plain_box, is_first, predicates_in, each_once, has_modality, proposition, plain_index, system_k, first_signature, first_problem}
 use Rattle.nxf_meaning.proofs.Spelling.{same_text-refl, same_text-true, true-false}
-use Rattle.nxf_meaning.proofs.Firsts.{split_bool, or-true, has-firsts, all-by_has}
+use Rattle.nxf_meaning.proofs.Firsts.{split_bool, has-firsts, all-by_has}
+use Rattle.nxf_meaning.proofs.GoodSymbols.{has-append}
 use Rattle.nxf_meaning.proofs.NoFault.{index-append}
 use Rattle.nxf_meaning.proofs.Declared.{uses-append}
 
@@ -52,10 +53,6 @@ sorts-append (index i ∷ os) ps = sorts-append os ps
 filter-append : {A : Type 0} (p : A → Bool) (xs ys : List A) → filter p (xs ++ ys) ≡ filter p xs ++ filter p ys
 filter-append p [] ys = refl
 filter-append p (x ∷ xs) ys = split_bool (p x) (λ e. rw e (ap (λ l. x ∷ l) (filter-append p xs ys))) (λ e. rw e (filter-append p xs ys))
-
-has-append : {A : Type 0} (same : A → A → Bool) (x : A) (xs ys : List A) → has same x (xs ++ ys) ≡ has same x xs || has same x ys
-has-append same x [] ys = refl
-has-append same x (y ∷ xs) ys = split_bool (same y x) (λ e. rw e refl) (λ e. rw e (has-append same x xs ys))
 
 plain-box : (m : Mode) (i : IndexName) → is_plain_box m i ≡ true → i ≡ Plain
 plain-box Box Plain h = refl

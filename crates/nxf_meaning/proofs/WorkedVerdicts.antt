@@ -36,8 +36,8 @@ use Rattle.nxf_tree.specs.Signature.{is_constant, is_flexible}
 use Rattle.nxf_tree.specs.SpecificationWords.{regime_named, designation_named, locality_named, system_named, axiom_named, same_scheme, scheme_order, schemes_of}
 use Rattle.nxf_tree.specs.Specification.{setting_of, takes_key}
 use Rattle.nxf_tree.specs.Parts.{parts_of, part_of}
-use Rattle.nxf_tree.specs.Rows.{Rows, Values}
-use Rattle.nxf_tree.specs.Structures.{KripkeStructure, ClassicalStructure, kripke_model, classical_model}
+use Rattle.nxf_tree.specs.Rows.{Rows, Values, all_rows, AreRows, AreValues, AreSizes, IsTable, AreTables}
+use Rattle.nxf_tree.specs.Structures.{KripkeStructure, ClassicalStructure, relation_shapes, IsOver, kripke_model, classical_model}
 use Rattle.nxf_tree.specs.Kripke.{sat}
 use Rattle.nxf_tree.specs.Classical.{csat}
 use Rattle.nxf_tree.specs.Conditions.{meets_frames, meets_domains, meets_terms}
@@ -504,6 +504,49 @@ local_axioms : term_axioms local_signature ≡
     ∷ []
 unfolding regime_named designation_named locality_named system_named axiom_named same_scheme setting_of takes_key out-SpecValue out-SpecItem roll-SpecValue roll-SpecItem denote.Hole.Carrier.out denote.Hole.Carrier.roll shown-the_row-SpecItem-0 denote.Hole.Carrier.shown denote.Hole.Carrier.hidden is_constant is_flexible hidden-the_row-Term-0 user_name user_variable world_variable element_variable relation_name existence_name actual_name world_name
 local_axioms = refl
+
+-- rows are in range, in row-major order, each at most once; a function has a value in range for each row
+all_rows_in_order : all_rows (2 ∷ 3 ∷ []) ≡ (0 ∷ 0 ∷ []) ∷ (0 ∷ 1 ∷ []) ∷ (0 ∷ 2 ∷ []) ∷ (1 ∷ 0 ∷ []) ∷ (1 ∷ 1 ∷ []) ∷ (1 ∷ 2 ∷ []) ∷ []
+all_rows_in_order = refl
+
+no_arguments : all_rows [] ≡ [] ∷ []
+no_arguments = refl
+
+good_rows : AreRows (2 ∷ 2 ∷ []) ((0 ∷ 1 ∷ []) ∷ (1 ∷ 0 ∷ []) ∷ [])
+good_rows = refl
+
+repeated_row : AreRows (2 ∷ []) ((0 ∷ []) ∷ (0 ∷ []) ∷ []) → ⊥
+repeated_row h = cc
+
+rows_out_of_order : AreRows (2 ∷ []) ((1 ∷ []) ∷ (0 ∷ []) ∷ []) → ⊥
+rows_out_of_order h = cc
+
+row_out_of_range : AreRows (2 ∷ []) ((2 ∷ []) ∷ []) → ⊥
+row_out_of_range h = cc
+
+missing_value : AreValues (2 ∷ []) 2 ((0 ∷ [], 1) ∷ []) → ⊥
+missing_value h = let e : (0 ∷ []) ∷ [] ≡ (0 ∷ []) ∷ (1 ∷ []) ∷ [] = h.total in cc
+
+value_out_of_range : AreValues (1 ∷ []) 2 ((0 ∷ [], 2) ∷ []) → ⊥
+value_out_of_range h = omega (arith, h.below.0)
+
+empty_sort : AreSizes (Individual ∷ []) (0 ∷ []) → ⊥
+empty_sort h = omega (arith, h.0)
+
+missing_size : AreSizes (Individual ∷ []) [] → ⊥
+missing_size h = h
+
+missing_table : AreTables (relation_shapes 1 (index_entry Plain [] ∷ [])) [] → ⊥
+missing_table h = h
+
+function_without_values : IsTable (record { sizes = []; values = Some 1 }) (Rows []) → ⊥
+function_without_values h = h
+
+no_world : IsOver k_signature (record { worlds = 0; actual = 0; relations = [] ∷ []; sizes = []; existing = []; symbols = Rows [] ∷ [] }) → ⊥
+no_world h = omega (arith, h.actual)
+
+no_actual_world : IsOver k_signature (record { worlds = 1; actual = 1; relations = [] ∷ []; sizes = []; existing = []; symbols = Rows [] ∷ [] }) → ⊥
+no_actual_world h = omega (arith, h.actual)
 
 thousand : numeral 1000 ≡ codes "1000"
 thousand = refl

@@ -2,7 +2,6 @@
 
 ghost use Rattle.std.specs.Prelude.{◌≡◌, IfOk};
 
-use crate::copy::put;
 use crate::tree::{
     Body, File, LogicSpec, Role, SortName, SpecEntry, SpecItem, SpecKey, SpecValue, Statement,
     Typing,
@@ -40,7 +39,7 @@ fn copy_items(alloc: Global, items: &List<SpecItem>) -> Result<List<SpecItem>, M
     let mut copies = List::new(alloc);
     for item in items.as_slice() {
         let copied = copy_item(alloc, item)?;
-        put(&mut copies, copied)?;
+        copies.push(copied)?;
     }
     Ok(copies)
 }
@@ -75,7 +74,7 @@ impl LogicSpec {
         let mut entries = List::new(alloc);
         for entry in self.entries.as_slice() {
             let copied = copy_entry(alloc, entry)?;
-            put(&mut entries, copied)?;
+            entries.push(copied)?;
         }
         Ok(LogicSpec {
             logic,
@@ -90,7 +89,7 @@ fn copy_sorts(alloc: Global, sorts: &List<SortName>) -> Result<List<SortName>, M
     let mut copies = List::new(alloc);
     for sort in sorts.as_slice() {
         let copied = sort.copy(alloc)?;
-        put(&mut copies, copied)?;
+        copies.push(copied)?;
     }
     Ok(copies)
 }
@@ -154,7 +153,7 @@ fn copy_texts(alloc: Global, texts: &List<Text>) -> Result<List<Text>, Memory>
     let mut copies = List::new(alloc);
     for text in texts.as_slice() {
         let copied = text.copy(alloc)?;
-        put(&mut copies, copied)?;
+        copies.push(copied)?;
     }
     Ok(copies)
 }
@@ -207,7 +206,7 @@ impl File {
         let mut statements = List::new(alloc);
         for statement in self.statements.as_slice() {
             let copied = statement.copy(alloc)?;
-            put(&mut statements, copied)?;
+            statements.push(copied)?;
         }
         Ok(File {
             statements,

@@ -2,7 +2,6 @@
 
 ghost use Rattle.std.specs.Prelude.{◌≡◌, IfOk};
 
-use crate::copy::put;
 use crate::tree::{IndexEntry, Scheme, Signature, SortEntry, SymbolEntry};
 use nxf_base::{List, Memory};
 use std::alloc::Global;
@@ -24,7 +23,7 @@ fn copy_numbers(alloc: Global, numbers: &List<u32>) -> Result<List<u32>, Memory>
 {
     let mut copies = List::new(alloc);
     for number in numbers.as_slice() {
-        put(&mut copies, *number)?;
+        copies.push(*number)?;
     }
     Ok(copies)
 }
@@ -50,7 +49,7 @@ fn copy_schemes(alloc: Global, schemes: &List<Scheme>) -> Result<List<Scheme>, M
 {
     let mut copies = List::new(alloc);
     for scheme in schemes.as_slice() {
-        put(&mut copies, *scheme)?;
+        copies.push(*scheme)?;
     }
     Ok(copies)
 }
@@ -74,7 +73,7 @@ fn copy_sorts(alloc: Global, sorts: &List<SortEntry>) -> Result<List<SortEntry>,
     let mut copies = List::new(alloc);
     for sort in sorts.as_slice() {
         let copied = sort.copy(alloc)?;
-        put(&mut copies, copied)?;
+        copies.push(copied)?;
     }
     Ok(copies)
 }
@@ -85,7 +84,7 @@ fn copy_symbols(alloc: Global, symbols: &List<SymbolEntry>) -> Result<List<Symbo
     let mut copies = List::new(alloc);
     for symbol in symbols.as_slice() {
         let copied = symbol.copy(alloc)?;
-        put(&mut copies, copied)?;
+        copies.push(copied)?;
     }
     Ok(copies)
 }
@@ -96,7 +95,7 @@ fn copy_indexes(alloc: Global, indexes: &List<IndexEntry>) -> Result<List<IndexE
     let mut copies = List::new(alloc);
     for index in indexes.as_slice() {
         let copied = index.copy(alloc)?;
-        put(&mut copies, copied)?;
+        copies.push(copied)?;
     }
     Ok(copies)
 }

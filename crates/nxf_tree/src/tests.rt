@@ -14,18 +14,14 @@ fn text(alloc: Global, bytes: &[u8]) -> Result<Text, Memory> {
 
 fn one<T: Drop>(alloc: Global, item: T) -> Result<List<T>, Memory> {
     let mut list = List::new(alloc);
-    match list.push(item) {
-        Ok(()) => Ok(list),
-        Err(_) => Err(Memory),
-    }
+    list.push(item)?;
+    Ok(list)
 }
 
 fn two<T: Drop>(alloc: Global, first: T, second: T) -> Result<List<T>, Memory> {
     let mut list = one(alloc, first)?;
-    match list.push(second) {
-        Ok(()) => Ok(list),
-        Err(_) => Err(Memory),
-    }
+    list.push(second)?;
+    Ok(list)
 }
 
 fn variable(alloc: Global, name: &[u8]) -> Result<Term, Memory> {
