@@ -38,7 +38,9 @@ use Rattle.nxf_tree.specs.Specification.{setting_of, takes_key}
 use Rattle.nxf_tree.specs.Parts.{parts_of, part_of}
 use Rattle.nxf_tree.specs.Rows.{Rows, Values, all_rows, AreRows, AreValues, AreSizes, IsTable, AreTables}
 use Rattle.nxf_tree.specs.Structures.{KripkeStructure, ClassicalStructure, relation_shapes, IsOver, kripke_model, classical_model}
-use Rattle.nxf_tree.specs.Kripke.{sat}
+use Rattle.nxf_tree.specs.declared.tree.Op.{Op}
+use Rattle.nxf_tree.specs.declared.tree.Op.TheVariants.{Implies, ImpliedBy, Iff, Xor, Nor, Nand}
+use Rattle.nxf_tree.specs.Kripke.{sat, connect}
 use Rattle.nxf_tree.specs.Classical.{csat}
 use Rattle.nxf_tree.specs.Conditions.{meets_frames, meets_domains, meets_terms}
 use Rattle.nxf_tree.specs.Axioms.{frame_axiom, term_axioms}
@@ -547,6 +549,28 @@ no_world h = omega (arith, h.actual)
 
 no_actual_world : IsOver k_signature (record { worlds = 1; actual = 1; relations = [] ∷ []; sizes = []; existing = []; symbols = Rows [] ∷ [] }) → ⊥
 no_actual_world h = omega (arith, h.actual)
+
+-- the truth tables, for both sides true, the left alone, the right alone, and neither
+abbrev table : Op → List Bool
+table op = connect op true true ∷ connect op true false ∷ connect op false true ∷ connect op false false ∷ []
+
+implication : table Implies ≡ true ∷ false ∷ true ∷ true ∷ []
+implication = refl
+
+converse_implication : table ImpliedBy ≡ true ∷ true ∷ false ∷ true ∷ []
+converse_implication = refl
+
+equivalence : table Iff ≡ true ∷ false ∷ false ∷ true ∷ []
+equivalence = refl
+
+exclusive_or : table Xor ≡ false ∷ true ∷ true ∷ false ∷ []
+exclusive_or = refl
+
+neither_nor : table Nor ≡ false ∷ false ∷ false ∷ true ∷ []
+neither_nor = refl
+
+not_both : table Nand ≡ false ∷ true ∷ true ∷ true ∷ []
+not_both = refl
 
 thousand : numeral 1000 ≡ codes "1000"
 thousand = refl
