@@ -32,6 +32,7 @@ abbrev pub individuals : ℕ → List SortName
 individuals zero = []
 individuals (suc n) = Individual ∷ individuals n
 
+-- a use with so many arguments, each of sort `$i`
 abbrev pub use_with : List ℕ → ℕ → Option SortName → Use
 use_with name count gives = record { name = name; type = record { args = individuals count; gives = gives } }
 
@@ -50,6 +51,7 @@ abbrev mutual
   row_uses end_of-Term = []
   row_uses (more_of-Term t ts) = term_uses t ++ row_uses ts
 
+-- the symbols of a list of terms
 abbrev pub terms_uses : List Term → List Use
 terms_uses [] = []
 terms_uses (t ∷ ts) = term_uses t ++ terms_uses ts
@@ -80,6 +82,7 @@ key_occurrences (Dollar word) = []
 key_occurrences (Name name) = []
 key_occurrences (Index i) = index i ∷ []
 
+-- the indexes that the overrides name
 abbrev pub override_occurrences : List Override → List Occurrence
 override_occurrences [] = []
 override_occurrences (o ∷ os) = key_occurrences o.key ++ override_occurrences os
@@ -93,6 +96,7 @@ statement_occurrences (Annotated name role (IsTyping (Symbol f args gives))) = s
 statement_occurrences (Annotated name role (IsLogic l)) = override_occurrences (override_list l.entries)
 statement_occurrences (Include file names) = []
 
+-- what occurs in the statements of a file
 abbrev pub occurrences_in : List Statement → List Occurrence
 occurrences_in [] = []
 occurrences_in (s ∷ ss) = statement_occurrences s ++ occurrences_in ss

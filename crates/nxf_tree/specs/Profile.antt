@@ -24,14 +24,17 @@ pub record Problem : Type 0 where
   pub spec : Specification
   pub signature : Signature
 
+-- the outcome of the third step: sorts
 abbrev pub with_sorts : List PartEntry → Specification → Signature → Option (ℕ × SortFault) → Result Problem Refusal
 with_sorts parts spec sig None = Ok (record { parts = parts; spec = spec; signature = sig })
 with_sorts parts spec sig (Some fault) = Err (RefusedSort fault.1.0 fault.0 fault.1.1)
 
+-- the outcome of the second step: the specification
 abbrev pub with_spec : File → List PartEntry → Result Specification SpecKind → Result Problem Refusal
 with_spec file parts (Err kind) = Err (RefusedSpec kind)
 with_spec file parts (Ok spec) = with_sorts parts spec (signature_of spec file) (sort_fault_of spec file)
 
+-- the outcome of the first step: roles
 abbrev pub with_parts : File → Result (List PartEntry) (ℕ × RoleKind) → Result Problem Refusal
 with_parts file (Err fault) = Err (RefusedRole fault.1 fault.0)
 with_parts file (Ok parts) = with_spec file parts (spec_of file)

@@ -26,6 +26,7 @@ abbrev pub firsts : {A : Type 0} → (A → A → Bool) → List A → List A
 firsts same [] = []
 firsts same (x ∷ xs) = x ∷ filter (λ y. not (same x y)) (firsts same xs)
 
+-- whether the uses are of one symbol
 abbrev pub same_symbol : Use → Use → Bool
 same_symbol u v = same_text u.name v.name
 
@@ -47,6 +48,7 @@ abbrev pub is_individual : Option SortName → Bool
 is_individual None = false
 is_individual (Some s) = same_sort s Individual
 
+-- whether `$i` is a sort in the type of the symbol
 abbrev pub mentions_individual : Use → Bool
 mentions_individual u = has same_sort Individual u.type.args || is_individual u.type.gives
 
@@ -58,6 +60,7 @@ has_individual ss = list_any mentions_individual (symbols_of ss) || has same_sor
 abbrev pub sorts_of_file : List Statement → List SortName
 sorts_of_file ss = if has_individual ss then Individual ∷ firsts same_sort (declared_sorts ss) else firsts same_sort (declared_sorts ss)
 
+-- whether the index has a name
 abbrev pub is_named : IndexName → Bool
 is_named Plain = false
 is_named (Named a) = true
@@ -81,6 +84,7 @@ abbrev pub locality_for : Specification → List ℕ → Option SortName → Loc
 locality_for spec f None = Global
 locality_for spec f (Some s) = spec.locality f
 
+-- the entry of a symbol, with the numbers of its sorts in the list
 abbrev pub symbol_entry : List SortName → Specification → Use → SymbolEntry
 symbol_entry ss spec u = record {
   name = u.name;

@@ -69,6 +69,7 @@ typing_fault L before (Symbol f args gives) =
     if has same_sort (User f) (declared_sorts before) then Some (DoubleName, f)
     else declared_again L f (record { args = args; gives = gives }) (type_in (declared before) f)
 
+-- only type statements have such a fault
 abbrev pub type_statement_fault : Language → List Statement → Statement → Option SortFault
 type_statement_fault L before (Annotated name role (IsTyping t)) = typing_fault L before t
 type_statement_fault L before (Annotated name role (IsFormula f)) = None
@@ -77,7 +78,7 @@ type_statement_fault L before (Include file names) = None
 
 -- Formulas, from left to right, outer before inner; `L` is what the signature of the file says, and `us` are its declarations of symbols.
 
--- whether a symbol of the type is used rightly, with so many arguments and as a function or as a predicate
+-- whether a symbol of the type is used rightly, with so many arguments and as a function or as a predicate; each symbol that occurs has a type
 abbrev pub is_right_use : Option SymbolType → ℕ → Bool → Bool
 is_right_use None count function = false
 is_right_use (Some t) count function = nat_eq (length t.args) count && same_truth (is_some t.gives) function
@@ -89,10 +90,12 @@ symbol_fault L us f count function =
     else (if is_right_use (L.type_of f) count function then None
     else (if is_some (type_in us f) then Some (Mismatch, f) else Some (DoubleName, f)))
 
+-- the sorts that the arguments are to have, as many as there are arguments where the symbol is used rightly
 abbrev pub argument_types : Option SymbolType → List SortName
 argument_types None = []
 argument_types (Some t) = t.args
 
+-- no binder binds the variable
 abbrev pub free_variable : Option SortName → List ℕ → Option SortFault
 free_variable None x = Some (FreeVariable, x)
 free_variable (Some s) x = None
@@ -112,6 +115,7 @@ abbrev mutual
   row_fault L us b f [] (more_of-Term t ts) = Some (Mismatch, f)
   row_fault L us b f (s ∷ wanted) (more_of-Term t ts) = option_or (term_fault L us b t) (option_or (wrong_sort f s (sort_of L b t)) (row_fault L us b f wanted ts))
 
+-- the first fault of the arguments of an atom
 abbrev pub arguments_fault : Language → List Use → Bound → List ℕ → List SortName → List Term → Option SortFault
 arguments_fault L us b f wanted [] = None
 arguments_fault L us b f [] (t ∷ ts) = Some (Mismatch, f)
@@ -142,6 +146,7 @@ abbrev mutual
   formulas_fault L us b end_of-Formula = None
   formulas_fault L us b (more_of-Formula f fs) = option_or (formula_fault L us b f) (formulas_fault L us b fs)
 
+-- the first fault of a statement's formula
 abbrev pub formula_statement_fault : Language → List Use → Statement → Option SortFault
 formula_statement_fault L us (Annotated name role (IsFormula f)) = formula_fault L us [] f
 formula_statement_fault L us (Annotated name role (IsTyping t)) = None
@@ -149,19 +154,23 @@ formula_statement_fault L us (Annotated name role (IsLogic l)) = None
 formula_statement_fault L us (Include file names) = None
 
 -- Overrides: one of domains names a declared sort, and one of designations or terms a function symbol; `$i` and indexes are always accepted.
+-- whether this is the type of a function symbol
 abbrev pub is_function : Option SymbolType → Bool
 is_function None = false
 is_function (Some t) = is_some t.gives
 
+-- the fault of an override of the name n in the list of the key `of`
 abbrev pub named_fault : Language → List ℕ → List ℕ → Option SortFault
 named_fault L of n =
     if (if same_text of (setting_name Domains) then L.knows_sort (User n) else is_function (L.type_of n)) then None else Some (UnknownOverride, n)
 
+-- `$i` and indexes are accepted
 abbrev pub override_fault : Language → List ℕ → SpecKey → Option SortFault
 override_fault L of (Dollar t) = None
 override_fault L of (Index i) = None
 override_fault L of (Name n) = named_fault L of n
 
+-- the first fault of the overrides
 abbrev pub overrides_fault : Language → List Override → Option SortFault
 overrides_fault L [] = None
 overrides_fault L (o ∷ os) = option_or (override_fault L o.of o.key) (overrides_fault L os)
@@ -173,5 +182,6 @@ sorts_fault L spec ss =
     (option_or (first_fault (λ before s. formula_statement_fault L (declared ss) s) 1 [] ss)
     (option_map (λ fault. (spec.place, fault)) (overrides_fault L spec.overrides)))
 
+-- the same for a file, over its own signature
 abbrev pub sort_fault_of : Specification → File → Option (ℕ × SortFault)
 sort_fault_of spec file = sorts_fault (modal_language (signature_of spec file)) spec file.statements

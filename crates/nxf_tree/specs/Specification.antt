@@ -74,7 +74,8 @@ setting_among (setting ∷ settings) key = if same_key (Dollar (setting_name set
 unfoldable pub setting_of : SpecKey → Option Setting
 setting_of = setting_among (Domains ∷ Designations ∷ Terms ∷ Modalities ∷ [])
 
--- A value is a word or a list of words and overrides; one word is as a list of it alone, but an empty list is no value.
+-- A value is a word or a list of words and overrides. What it says is as if one word were a list of it alone.
+
 abbrev pub and_word : SpecItem-F SpecItem SpecValue SpecEntry → List (List ℕ) → List (List ℕ)
 and_word (opened.SpecItem::Word word) words = word ∷ words
 and_word (opened.Entry entry) words = words
@@ -93,6 +94,7 @@ abbrev pub overrides_of : List SpecItem → List SpecEntry
 overrides_of [] = []
 overrides_of (item ∷ items) = and_override (out-SpecItem item) (overrides_of items)
 
+-- the words, and the overrides, of a value
 abbrev pub words_in : SpecValue-F SpecItem SpecValue SpecEntry → List (List ℕ)
 words_in (opened.SpecValue::Word word) = word ∷ []
 words_in (opened.Items items) = words_of items
@@ -110,6 +112,7 @@ takes_key Terms (Name t) = true
 takes_key Modalities (Index i) = true
 takes_key _ _ = false
 
+-- whether the list is empty
 abbrev pub is_empty : {A : Type 0} → List A → Bool
 is_empty [] = true
 is_empty (x ∷ xs) = false
@@ -145,12 +148,13 @@ value_fault setting (opened.Items []) = Some (UnknownValue (setting_name setting
 value_fault setting (opened.Items (item ∷ items)) =
     option_map (λ fault. fault.1) (first_fault (λ before x. item_fault setting before (out-SpecItem x)) 0 [] (item ∷ items))
 
--- the fault of an entry after the entries before it: its key is unknown, or came before, or its value has a fault
+-- its key is unknown, or came before, or its value has a fault
 abbrev pub setting_fault : Option Setting → List SpecEntry → SpecEntry → Option SpecKind
 setting_fault None before entry = Some (UnknownKey (key_text entry.key))
 setting_fault (Some setting) before entry =
     if has_key before entry.key then Some (DuplicateKey (key_text entry.key)) else value_fault setting (out-SpecValue entry.value)
 
+-- the fault of an entry after the entries before it
 abbrev pub entry_fault : List SpecEntry → SpecEntry → Option SpecKind
 entry_fault before entry = setting_fault (setting_of entry.key) before entry
 
@@ -211,7 +215,7 @@ logic_statements k (Annotated name role (IsFormula f) ∷ ss) = logic_statements
 logic_statements k (Annotated name role (IsTyping t) ∷ ss) = logic_statements (suc k) ss
 logic_statements k (Include file names ∷ ss) = logic_statements (suc k) ss
 
--- what the only logic statement says, or the first refusal
+-- what the only one of these logic statements says, or the first refusal: there is none, or a second one, or it has a fault
 abbrev pub only_logic : List (ℕ × LogicSpec) → Result Specification SpecKind
 only_logic [] = Err Absent
 only_logic (l ∷ []) = unless (logic_fault l.1) (specification l.0 l.1.entries)

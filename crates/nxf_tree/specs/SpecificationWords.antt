@@ -22,6 +22,7 @@ abbrev pub named : {A : Type 0} → List ℕ → List (List ℕ × A) → List �
 named mark [] word = None
 named mark (entry ∷ entries) word = if same_text (mark ++ entry.0) word then Some entry.1 else named mark entries word
 
+-- the words for regimes, designations and localities, without the `$` before them
 abbrev pub regimes : List (List ℕ × Regime)
 regimes = (codes "constant", Constant) ∷ (codes "cumulative", Cumulative) ∷ (codes "decreasing", Decreasing) ∷ (codes "varying", Varying) ∷ []
 
@@ -69,6 +70,7 @@ modal_axioms =
     ∷ (codes "C", C ∷ [])
     ∷ []
 
+-- what a word means, if it is one of its kind
 unfoldable pub regime_named : List ℕ → Option Regime
 regime_named = named (codes "$") regimes
 
@@ -98,11 +100,13 @@ joins Designations word = false
 joins Terms word = false
 joins Modalities word = is_some (axiom_named word)
 
+-- whether there is one word, which stands alone
 abbrev pub one_alone : Setting → List (List ℕ) → Bool
 one_alone setting [] = false
 one_alone setting (word ∷ []) = stands_alone setting word
 one_alone setting (word ∷ next ∷ words) = false
 
+-- whether there are one or more words, which all join
 abbrev pub some_join : Setting → List (List ℕ) → Bool
 some_join setting [] = false
 some_join setting (word ∷ words) = list_all (joins setting) (word ∷ words)
