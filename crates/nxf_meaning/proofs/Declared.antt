@@ -60,17 +60,18 @@ module _ (L : Language) where
       let here : type_statement_fault L before s ≡ None = map-none _ _ parts.0 in
       split_bool (same_text g f)
       (λ e.
-        let is : own ≡ t = own-type own t (sym (rw e refl) ∙ found) in
-        let name-is : g ≡ f = same_text-true g f e in
-        let again : declared_again L g own (type_in (declared before) g) ≡ None = not-a-sort (has same_sort (User g) (declared_sorts before)) (DoubleName, g) _ here in
-        let unknown : unknown_sorts L (own.args ++ gives_list own.gives) ≡ None = sym (ap (declared_again L g own) (ap (type_in (declared before)) name-is ∙ none)) ∙ again in
-        ap (λ (u : SymbolType). unknown_sorts L (u.args ++ gives_list u.gives)) (sym is) ∙ unknown)
+      let is : own ≡ t = own-type own t (sym (rw e refl) ∙ found) in
+      let name-is : g ≡ f = same_text-true g f e in
+      let again : declared_again L g own (type_in (declared before) g) ≡ None = not-a-sort (has same_sort (User g) (declared_sorts before)) (DoubleName, g) _ here in
+      let unknown : unknown_sorts L (own.args ++ gives_list own.gives) ≡ None = sym (ap (declared_again L g own) (ap (type_in (declared before)) name-is ∙ none)) ∙ again in
+      ap (λ (u : SymbolType). unknown_sorts L (u.args ++ gives_list u.gives)) (sym is) ∙ unknown)
       (λ e. declared-known (suc k) (before ++ s ∷ []) ss parts.1 f t
-        (ap (λ l. type_in l f) (declared-append before (s ∷ [])) ∙ (type_in-after (declared before) (declared (s ∷ [])) f none ∙ rw e refl))
-        (sym (rw e refl) ∙ found))
+      (ap (λ l. type_in l f) (declared-append before (s ∷ [])) ∙ (type_in-after (declared before) (declared (s ∷ [])) f none ∙ rw e refl))
+      (sym (rw e refl) ∙ found))
     where
       own-type : (a b : SymbolType) → Some a ≡ Some b → a ≡ b
       own-type a b e = cc
+
       not-a-sort : (b : Bool) (x : SortFault) (o : Option SortFault) → (if b then Some x else o) ≡ None → o ≡ None
       not-a-sort true x o e = absurd (some-none x e)
       not-a-sort false x o e = e
@@ -181,6 +182,7 @@ module _ (us : List Use) where
       found : (b : Bool) (t : SymbolType) (o : Option SymbolType) → b ≡ true → is_some (if b then Some t else o) ≡ true
       found true t o e = refl
       found false t o e = absurd (true-false (sym e))
+
       later : (b : Bool) (t : SymbolType) (o : Option SymbolType) → is_some o ≡ true → is_some (if b then Some t else o) ≡ true
       later true t o e = refl
       later false t o e = e

@@ -157,9 +157,9 @@ module _ (f : Formula) (first : is_first f ≡ true) where
   index-entries : map (λ i. record { name = i; schemes = k_says.schemes i }) (indexes_of_file (first_problem f).statements) ≡ (first_signature f).indexes
   index-entries =
       (λ i. map (λ j. record { name = j; schemes = k_says.schemes j })
-        (if has same_index Plain (indexes (occur i)) then Plain ∷ firsts same_index (filter is_named (indexes (occur i))) else firsts same_index (filter is_named (indexes (occur i)))))
+      (if has same_index Plain (indexes (occur i)) then Plain ∷ firsts same_index (filter is_named (indexes (occur i))) else firsts same_index (filter is_named (indexes (occur i)))))
       ∙ (λ i. map (λ j. record { name = j; schemes = k_says.schemes j })
-        (if here.modality i then Plain ∷ firsts same_index (here.no_name i) else firsts same_index (here.no_name i)))
+      (if here.modality i then Plain ∷ firsts same_index (here.no_name i) else firsts same_index (here.no_name i)))
       ∙ by (has_modality f)
     where
       by : (b : Bool) → map (λ j. record { name = j; schemes = k_says.schemes j }) (if b then Plain ∷ [] else []) ≡ (if b then plain_index ∷ [] else [])
@@ -195,7 +195,7 @@ module _ (L : Language) (no-sort : (p : List ℕ) → L.knows_sort (User p) ≡ 
       let parts : (is_implication op ≡ true) × (is_first f && is_first g ≡ true) = and_parts _ _ h in
       let both : (is_first f ≡ true) × (is_first g ≡ true) = and_parts _ _ parts.1 in
       let rights : (list_all is_right (predicates_in f) ≡ true) × (list_all is_right (predicates_in g) ≡ true) =
-        and_parts _ _ (sym (list_all-append is_right (predicates_in f) (predicates_in g)) ∙ k) in
+      and_parts _ _ (sym (list_all-append is_right (predicates_in f) (predicates_in g)) ∙ k) in
       rw (no-formula-fault f both.0 rights.0) (no-formula-fault g both.1 rights.1)
   no-formula-fault (Quant1 q x s f) h k = absurd (true-false (sym h))
   no-formula-fault (Modal1 m i f) h k = no-formula-fault f (and_parts _ _ h).1 k

@@ -104,10 +104,10 @@ number-in-range f [] s h = h
 number-in-range f (r ∷ ss) s h = split_bool (same_sort r s)
     (λ e. ap (λ b. in_range (map f (r ∷ ss)) (if not b then 1 + position_or_len (same_sort s) ss else 0)) (same_sort-sym s r ∙ e))
     (λ e. ap (λ b. in_range (map f (r ∷ ss)) (if not b then 1 + position_or_len (same_sort s) ss else 0)) (same_sort-sym s r ∙ e)
-      ∙ (ap (in_range (map f (r ∷ ss))) (one-more (position_or_len (same_sort s) ss)) ∙ number-in-range f ss s (sym (rw e refl) ∙ h)))
-    where
-      one-more : (n : ℕ) → 1 + n ≡ suc n
-      one-more n = omega arith
+    ∙ (ap (in_range (map f (r ∷ ss))) (one-more (position_or_len (same_sort s) ss)) ∙ number-in-range f ss s (sym (rw e refl) ∙ h)))
+  where
+    one-more : (n : ℕ) → 1 + n ≡ suc n
+    one-more n = omega arith
 
 module _ (spec : Specification) (file : File) (ok : sort_fault_of spec file ≡ None) where
   abbrev ss : List Statement
@@ -148,6 +148,7 @@ module _ (spec : Specification) (file : File) (ok : sort_fault_of spec file ≡ 
           by : (c : Bool) → has same_sort (User f) (if c then Individual ∷ firsts same_sort (declared_sorts ss) else firsts same_sort (declared_sorts ss)) ≡ false
           by true = firsts-none same_sort (User f) (declared_sorts ss) e
           by false = firsts-none same_sort (User f) (declared_sorts ss) e
+
       alike : (us : List Use) → disjoint us (declared_sorts ss) ≡ true → apart L (declared ss) us ≡ true
       alike [] d = refl
       alike (u ∷ us) d =
@@ -265,6 +266,7 @@ module _ (spec : Specification) (file : File) (ok : sort_fault_of spec file ≡ 
       front : (b : Bool) (j : IndexName) (is : List IndexName) → has same_index j is ≡ true → has same_index j (if b then Plain ∷ is else is) ≡ true
       front true j is k = or_right _ _ k
       front false j is k = k
+
       by : (j : IndexName) → has same_index j (indexes (occurrences_in ss)) ≡ true → has same_index j (indexes_of_file ss) ≡ true
       by Plain k = ap (λ b. has same_index Plain (if b then Plain ∷ firsts same_index (filter is_named (indexes (occurrences_in ss))) else firsts same_index (filter is_named (indexes (occurrences_in ss))))) k
       by (Named a) k = front (has same_index Plain (indexes (occurrences_in ss))) (Named a) (firsts same_index (filter is_named (indexes (occurrences_in ss))))

@@ -3,7 +3,6 @@ pub mod Complete
 pub mod Sound
 pub mod Exact
 pub mod Regular
-pub mod Printable
 pub mod Words
 pub mod Appending
 pub mod Answering

@@ -3,11 +3,10 @@ use Rattle.std.proofs.lemmas.Result.{MatchResult-weaker}
 use Rattle.nxf_tree.specs.FirstForm.{first_signature, first_problem}
 use Rattle.nxf_tree.specs.Text.{text_of, is_printable}
 use Rattle.nxf_meaning.proofs.FirstProfile.{reading, first-profile}
-use Rattle.nxf_run.proofs.Printable.{printable}
 use Rattle.nxf_run.proofs.prepare.translate_formula.Goals as goal
 
 pub print-requires : goal.print-requires
-print-requires c = record { printable = ap is_printable c.in-Ok.ensures.written ∙ printable (first_signature c.args.conjecture.now) (first_problem c.args.conjecture.now) }
+print-requires c = record { printable = c.in-Ok.ensures.printable }
 
 pub returns-in-Ok : goal.returns-in-Ok
 returns-in-Ok c =
