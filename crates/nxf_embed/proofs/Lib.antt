@@ -3,3 +3,5 @@ pub mod Declaring
 pub mod FirstForm
 pub mod Noting
 pub mod Numerals
+pub mod Printable
+pub mod WorkedCases

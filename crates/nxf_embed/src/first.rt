@@ -7,6 +7,7 @@ ghost use Rattle.nxf_tree.specs.Structures.{KripkeStructure, ClassicalStructure,
 ghost use Rattle.nxf_tree.specs.Countermodels.{IsKripkeCountermodel, IsClassicalCountermodel};
 ghost use Rattle.nxf_tree.specs.ClassicalSignature.{classical_signature_of, relation_entries};
 ghost use Rattle.nxf_tree.specs.Problem.{problem_of};
+ghost use Rattle.nxf_tree.specs.Text.{is_printable};
 ghost use Rattle.nxf_embed.specs.Propositional.{predicate_table_of};
 
 use crate::declare::{declarations, formula_statement};
@@ -25,6 +26,7 @@ pub fn embed_first(alloc: Global, conjecture: &Formula) -> Result<File, Memory>
     requires first { IsTrue (is_first conjecture.now) }
     requires bounded { formula_depth conjecture.now < 2 ^ 32 }
     ensures written { IfOk result (λ file. file ≡ problem_of (first_signature conjecture.now) (first_problem conjecture.now)) }
+    ensures printable { IfOk result (λ file. IsTrue (is_printable file)) }
     ensures keeps_countermodels { IfOk result (λ file. (K : KripkeStructure) (S : ClassicalStructure) → IsOver (first_signature conjecture.now) K → Corresponds K S → IsClassicalCountermodel (classical_signature_of (first_signature conjecture.now)) file S ↔ IsKripkeCountermodel (first_signature conjecture.now) (first_problem conjecture.now) K) }
 {
     let signature = first_tables(alloc, conjecture)?;

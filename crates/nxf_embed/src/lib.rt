@@ -13,3 +13,6 @@ pub use first::embed_first;
 pub use names::{actual_name, relation_name, user_name, world_name, world_variable};
 pub use occurrences::{has_modality, predicates};
 pub use translation::{Place, translate};
+
+#[cfg(test)]
+mod tests;

@@ -8,3 +8,6 @@ mod term;
 
 pub use name::print_name;
 pub use statement::print_file;
+
+#[cfg(test)]
+mod tests;
