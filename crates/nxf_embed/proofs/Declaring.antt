@@ -1,5 +1,5 @@
 -- The definitions of declarations on lists that grow, and on places that are looked up.
-use Rattle.std.proofs.Common.{◌≡◌, ℕ, zero, suc, ◌≤◌, List, [], ◌∷◌, ◌++◌, length, get_or, refl, ap, sym, arith}
+use Rattle.std.proofs.Common.{◌≡◌, ℕ, zero, suc, ◌≤◌, List, [], ◌∷◌, ◌++◌, length, get_or, refl, ap, arith}
 use Rattle.nxf_tree.specs.declared.tree.SortName.{SortName}
 use Rattle.nxf_tree.specs.declared.tree.SortName.TheVariants.{Individual, User}
 use Rattle.nxf_tree.specs.declared.tree.Typing.TheVariants.{Sort}

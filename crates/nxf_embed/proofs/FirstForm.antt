@@ -1,19 +1,16 @@
 -- What the definitions say of the first form.
-use Rattle.std.proofs.Common.{◌≡◌, ℕ, suc, Bool, true, false, List, [], ◌∷◌, ◌++◌, refl, ap, sym, ◌∙◌, append_assoc, append-nil, filter, not, if◌then◌else◌}
-use Rattle.std.specs.Prelude.{map, ◌&&◌, ◌||◌, IsTrue, codes}
-use Rattle.std.specs.List.{list_any}
-use Rattle.nxf_tree.specs.declared.tree.Mode.{Mode}
+use Rattle.std.proofs.Common.{◌≡◌, ℕ, suc, Bool, true, false, List, [], ◌∷◌, ◌++◌, refl, ap, sym, if◌then◌else◌}
+use Rattle.std.specs.Prelude.{map, ◌&&◌, IsTrue, codes}
 use Rattle.nxf_tree.specs.declared.tree.Term.{Term, Var}
 use Rattle.nxf_tree.specs.declared.tree.Signature.{Signature}
 use Rattle.nxf_tree.specs.declared.tree.Formula.{Formula, True, False, Atom, Same, Differ, And', Or', Distinct, Row_of-Formula, end_of-Formula, more_of-Formula}
-use Rattle.nxf_tree.specs.declared.tree.File.{File}
-use Rattle.nxf_tree.specs.Names.{same_text, actual_name, relation_name, world_variable}
+use Rattle.nxf_tree.specs.Names.{actual_name, relation_name, world_variable}
 use Rattle.nxf_tree.specs.Shapes.{Not1, Pair2, Quant1, Modal1, Name0}
-use Rattle.nxf_tree.specs.Embedding.{st, sts, over_worlds, guard}
+use Rattle.nxf_tree.specs.Embedding.{st, sts, over_worlds}
 use Rattle.nxf_tree.specs.Axioms.{added_axioms, frame_axioms, term_axioms_of}
 use Rattle.nxf_tree.specs.ClassicalSignature.{classical_signature_of, relation_entries, symbol_entries}
 use Rattle.nxf_tree.specs.Problem.{problem_of, declarations, statement_of, axiom_statements}
-use Rattle.nxf_tree.specs.FirstForm.{is_first, first_signature, first_problem, proposition, plain_index, predicates_in, each_once, has_modality, has_no_arguments}
+use Rattle.nxf_tree.specs.FirstForm.{is_first, first_signature, first_problem, proposition, plain_index, predicates_in, each_once, has_modality}
 use Rattle.nxf_embed.specs.Propositional.{is_propositional, are_propositional, no_signature, predicate_table_of}
 use Rattle.nxf_embed.proofs.Cases.{both_true}
 

@@ -3,7 +3,7 @@ use Rattle.std.proofs.Common.{◌≡◌, ℕ, Bool, true, false, List, [], ◌�
 use Rattle.std.specs.Prelude.{◌&&◌, ◌||◌, not, filter, if◌then◌else◌}
 use Rattle.std.specs.List.{list_any}
 use Rattle.std.proofs.lemmas.List.Folds.{list_any-append}
-use Rattle.indexmap.specs.IndexSet.{insert_key, insert_all}
+use Rattle.indexmap.specs.IndexSet.{insert_all}
 use Rattle.nxf_tree.specs.Names.{same_text}
 use Rattle.nxf_tree.specs.FirstForm.{each_once}
 use Rattle.nxf_meaning.proofs.Spelling.{same_text-true, same_text-refl, both_ways}

@@ -1,5 +1,5 @@
 -- Problems of the first form worked out: the definitions give the signatures, the problems and the texts that a reader expects.
-use Rattle.std.proofs.Common.{◌≡◌, ℕ, true, false, List, [], ◌∷◌, ◌++◌, refl}
+use Rattle.std.proofs.Common.{◌≡◌, ℕ, false, List, [], ◌∷◌, ◌++◌, refl}
 use Rattle.std.specs.Prelude.{codes}
 use Rattle.nxf_tree.specs.declared.tree.IndexName.TheVariants.{Plain, Named}
 use Rattle.nxf_tree.specs.declared.tree.Mode.TheVariants.{Box, Dia}
@@ -8,7 +8,7 @@ use Rattle.nxf_tree.specs.declared.tree.Formula.{Formula, Atom}
 use Rattle.nxf_tree.specs.Shapes.{Not1, Pair2, Modal1}
 use Rattle.nxf_tree.specs.Names.{user_name, world_variable, relation_name, actual_name, world_name}
 use Rattle.nxf_tree.specs.Problem.{problem_of}
-use Rattle.nxf_tree.specs.FirstForm.{is_first, first_signature, first_problem, each_once, predicates_in}
+use Rattle.nxf_tree.specs.FirstForm.{is_first, first_signature, first_problem}
 use Rattle.nxf_tree.specs.Text.{text_of}
 
 abbrev atom : List ℕ → Formula

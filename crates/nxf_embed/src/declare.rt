@@ -31,7 +31,11 @@ pub fn formula_statement(
 {
     let role = role(alloc, word)?;
     match Text::from_bytes(alloc, name) {
-        Ok(name) => Ok(Statement::Annotated { name, role, body: Body::Formula(formula) }),
+        Ok(name) => Ok(Statement::Annotated {
+            name,
+            role,
+            body: Body::Formula(formula),
+        }),
         Err(Memory) => Err(Memory),
     }
 }
@@ -42,7 +46,11 @@ fn declaration(alloc: Global, name: &Text, typing: Typing) -> Result<Statement, 
 {
     let role = role(alloc, b"type")?;
     match name.copy(alloc) {
-        Ok(name) => Ok(Statement::Annotated { name, role, body: Body::Typing(typing) }),
+        Ok(name) => Ok(Statement::Annotated {
+            name,
+            role,
+            body: Body::Typing(typing),
+        }),
         Err(Memory) => Err(Memory),
     }
 }

@@ -65,7 +65,11 @@ fn relation_table(alloc: Global) -> Result<TableEntry, Memory>
     let mut args = List::new(alloc);
     args.push(0)?;
     args.push(0)?;
-    Ok(TableEntry { name, args, gives: None })
+    Ok(TableEntry {
+        name,
+        args,
+        gives: None,
+    })
 }
 
 fn add_predicates(
@@ -89,5 +93,9 @@ fn predicate_table(alloc: Global, name: &Text) -> Result<TableEntry, Memory>
     let name = user_name(alloc, name)?;
     let mut args = List::new(alloc);
     args.push(0)?;
-    Ok(TableEntry { name, args, gives: None })
+    Ok(TableEntry {
+        name,
+        args,
+        gives: None,
+    })
 }

@@ -1,3 +1,4 @@
+//! The standard relational translation of a formula at a world.
 ghost use Rattle.std.specs.Prelude.{◌≡◌, ℕ, ◌∷◌, [], ◌+◌, ◌<◌, ◌^◌, IfOk, IsTrue, map};
 ghost use Rattle.std.specs.List.{list_all};
 ghost use Rattle.nxf_tree.specs.Depth.{formula_depth, formula_list_depth};
@@ -10,18 +11,22 @@ ghost use Rattle.nxf_embed.specs.Propositional.{is_propositional, no_signature};
 
 use crate::names::{actual_name, relation_name, user_name, world_name, world_variable};
 use nxf_base::{List, Memory};
-use nxf_tree::{Formula, IndexName, Mode, Op, Quantifier, SortName, Term};
-use nxf_tree::{both, negated, pair, quantified};
+use nxf_tree::{
+    Formula, IndexName, Mode, Op, Quantifier, SortName, Term, both, negated, pair, quantified,
+};
 use std::alloc::Global;
 
 /// The world at which a formula is translated.
 #[derive(Clone, Copy, Debug, PartialEq, Eq)]
 pub enum Place {
+    /// The actual world.
     Actual,
+    /// The world of the variable with this number, which a box or a diamond reaches.
     Reached(u64),
 }
 
-/// The translation of a formula at a world, with the number of the next world variable.
+/// The standard relational translation of a formula of propositional modal logic at a world. `next` is the number of the next
+/// variable for a world. There is no other error than want of memory.
 #[cycle(translate)]
 pub fn translate(
     alloc: Global,
@@ -109,7 +114,7 @@ fn place_term(alloc: Global, place: Place) -> Result<Term, Memory>
     }
 }
 
-/// That the next world is reached.
+/// The atom that says that the next world is reached.
 fn access(alloc: Global, index: &IndexName, place: Place, next: u64) -> Result<Formula, Memory>
     ensures { IfOk result (λ f. f ≡ Atom (spelled.relation_name index.now) (term_of place ∷ Var (spelled.world_variable next) ∷ [])) }
 {
@@ -119,7 +124,7 @@ fn access(alloc: Global, index: &IndexName, place: Place, next: u64) -> Result<F
     Ok(Formula::Atom(name, two(alloc, from, to)?))
 }
 
-/// For each next world, or for some, under the condition that it is reached.
+/// What holds at each world that is reached, or at some of them.
 fn reached(
     alloc: Global,
     mode: Mode,

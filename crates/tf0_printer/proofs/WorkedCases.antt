@@ -6,7 +6,7 @@ use Rattle.nxf_tree.specs.declared.tree.SortName.TheVariants.{Individual, User}
 use Rattle.nxf_tree.specs.declared.tree.Quantifier.TheVariants.{All, Exists}
 use Rattle.nxf_tree.specs.declared.tree.Mode.TheVariants.{Box, Dia}
 use Rattle.nxf_tree.specs.declared.tree.Op.TheVariants.{Implies, Nor}
-use Rattle.nxf_tree.specs.declared.tree.Term.{Term, Var}
+use Rattle.nxf_tree.specs.declared.tree.Term.{Var}
 use Rattle.nxf_tree.specs.declared.tree.Formula.{Formula, Atom, Same, Differ, Distinct, True, False}
 use Rattle.nxf_tree.specs.declared.tree.Typing.TheVariants as typing
 use Rattle.nxf_tree.specs.declared.tree.Body.TheVariants as body

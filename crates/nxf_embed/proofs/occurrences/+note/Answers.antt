@@ -2,7 +2,7 @@ use Rattle.std.proofs.Common.{◌≡◌, ap, ◌∙◌, sym}
 use Rattle.std.proofs.lemmas.List.Sums.{fold-append}
 use Rattle.std.specs.Prelude.{flat_map, ◌++◌}
 use Rattle.nxf_tree.specs.FirstForm.{predicates_in}
-use Rattle.nxf_tree.specs.Shapes.{Not1, Pair2, Quant1, Modal1, Not_is, Pair_is, Quant_is, Modal_is}
+use Rattle.nxf_tree.specs.Shapes.{Not_is, Pair_is, Quant_is, Modal_is}
 use Rattle.nxf_embed.proofs.Cases.{predicates_in_And, predicates_in_Or}
 use Rattle.nxf_embed.proofs.occurrences.+note.Goals as goal
 
@@ -24,7 +24,7 @@ note_predicates-returns-in-Or t c =
 pub note_predicates-returns-in_ok-note_predicates-in-Pair : goal.note_predicates-returns-in_ok-note_predicates-in-Pair
 note_predicates-returns-in_ok-note_predicates-in-Pair t c =
     let is : predicates_in c.args.formula.now ≡ predicates_in c.get-in-Pair.result.now ++ predicates_in c.get-in-Pair-2.result.now =
-        ap predicates_in (c.in-Pair.is ∙ Pair_is _ _ _) ∙ sym (λ i. predicates_in (c.get-in-Pair.ensures i) ++ predicates_in (c.get-in-Pair-2.ensures i)) in
+    ap predicates_in (c.in-Pair.is ∙ Pair_is _ _ _) ∙ sym (λ i. predicates_in (c.get-in-Pair.ensures i) ++ predicates_in (c.get-in-Pair-2.ensures i)) in
     rw (is, fold-append, ← c.in_ok-note_predicates-in-Pair.ensures) c.note_predicates-in-Pair-2.ensures
 
 pub note_predicates-returns-in-Quant : goal.note_predicates-returns-in-Quant
