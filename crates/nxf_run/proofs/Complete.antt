@@ -1,5 +1,5 @@
 -- What has the form is read: the descent finds the formula, and goes as far.
-use Rattle.std.proofs.Common.{◌≡◌, ◌≤◌, ℕ, ◌+◌, zero, suc, Bool, true, false, nat_eq, List, [], ◌∷◌, ◌++◌, length, take, drop, codes, Option, Some, None, refl, sym, ap, ◌∙◌, arith, append_assoc, cond}
+use Rattle.std.proofs.Common.{◌≡◌, ℕ, ◌+◌, suc, Bool, true, false, nat_eq, List, [], ◌∷◌, ◌++◌, length, codes, Some, refl, ap, ◌∙◌, arith, append_assoc, cond}
 use Rattle.std.proofs.lemmas.Bool.{and_parts}
 use Rattle.std.proofs.lemmas.Bool.Decides.{nat_tests}
 use Rattle.std.proofs.Math.Seq.{drop-append_seam, take-append_seam}
@@ -7,12 +7,11 @@ use Rattle.std.specs.Cmp.Lexicographic.{pointwise, bytes_decides}
 use Rattle.std.specs.List.{prefix_len, list_all}
 use Rattle.nxf_tree.specs.declared.tree.IndexName.TheVariants.{Plain}
 use Rattle.nxf_tree.specs.declared.tree.Mode.TheVariants as mode
-use Rattle.nxf_tree.specs.declared.tree.Op.TheVariants.{Implies}
 use Rattle.nxf_tree.specs.declared.tree.Formula.{Formula}
-use Rattle.nxf_tree.specs.declared.tree.Formula.TheVariants.{Not, Modal, Pair, Atom}
+use Rattle.nxf_tree.specs.declared.tree.Formula.TheVariants.{Not, Modal}
 use Rattle.nxf_run.specs.declared.cursor.Opening.TheVariants as opening
 use Rattle.nxf_run.specs.FirstGrammar.{head, is_letter, is_atom, IsUnit, IsFirst, negation, box, brackets, atom, alone, implication}
-use Rattle.nxf_run.specs.Parse.{Parser, and_then, pure, comes, eat, expect, take_atom, opening_of, opening_at, joined, whole, unit_by, unit, lines}
+use Rattle.nxf_run.specs.Parse.{Parser, and_then, pure, comes, eat, expect, take_atom, opening_of, opening_at, joined, whole, unit, lines}
 use Rattle.nxf_run.proofs.Levels.{unit_is}
 
 comes_itself : (text rest : List ℕ) → comes text (text ++ rest) ≡ true

@@ -1,5 +1,5 @@
 -- The ways in which a run ends.
-use Rattle.std.proofs.Common.{◌≡◌, ◌≢◌, ◌≤◌, ℕ, List, [], ◌++◌, Option, None, Some, Result, Ok, Err, refl, sym, ap, subst, ◌∙◌, arith}
+use Rattle.std.proofs.Common.{◌≡◌, ◌≢◌, ◌≤◌, ℕ, List, [], Option, Some, Ok, Err, refl, sym, subst, ◌∙◌, arith}
 use Rattle.std.specs.Prelude.{◌⊎◌}
 use mathlib.Core.Logic.{inl, inr}
 use Rattle.nxf_base.specs.Causes.{Rose}
@@ -9,9 +9,9 @@ use Rattle.nxf_base.specs.Shelf.{Shelf, Keeps}
 use Rattle.nxf_base.specs.Write.{Appends}
 use Rattle.nxf_base.specs.declared.status.Status.{Status}
 use Rattle.nxf_base.specs.declared.status.Status.TheVariants as status
-use Rattle.nxf_run.specs.Answer.{Answer, IsAnswer, Holds, Translates, embed_stdin, stdin, translated}
-use Rattle.nxf_run.specs.Ending.{AppendsSome, written_of, Follows, HasCause, MayEnd, Reports, Completes, Means}
-use Rattle.nxf_run.specs.Steps.{FileTranslates, FileRefuses, Refuses}
+use Rattle.nxf_run.specs.Answer.{IsAnswer, embed_stdin, stdin, translated}
+use Rattle.nxf_run.specs.Ending.{AppendsSome, written_of, Follows, MayEnd, Reports, Completes, Means}
+use Rattle.nxf_run.specs.Steps.{FileTranslates, Refuses}
 use Rattle.nxf_run.proofs.Appending.{appends_none}
 use Rattle.nxf_run.proofs.Answering.{some_answer, one_answer, known_refusal}
 

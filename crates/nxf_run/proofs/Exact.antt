@@ -1,10 +1,9 @@
 -- The descent and the form agree on whole files.
-use Rattle.std.proofs.Common.{◌≡◌, ◌≤◌, ℕ, Bool, true, false, List, [], ◌∷◌, ◌++◌, length, codes, Option, Some, None, refl, sym, ap, subst, ◌∙◌, arith}
-use Rattle.std.specs.Prelude.{◌⊎◌, IsTrue}
+use Rattle.std.proofs.Common.{◌≡◌, ◌≤◌, ℕ, true, false, List, [], ◌∷◌, length, Some, None, refl, sym, ap, ◌∙◌}
 use Rattle.std.proofs.lemmas.Bool.{eqb-true}
 use mathlib.Core.Logic.{inl, inr}
 use Rattle.nxf_tree.specs.declared.tree.Formula.{Formula}
-use Rattle.nxf_run.specs.FirstGrammar.{head, IsFirst, IsLineEnd, HasFirstForm}
+use Rattle.nxf_run.specs.FirstGrammar.{IsLineEnd, HasFirstForm}
 use Rattle.nxf_run.specs.Parse.{Outcome, lines, is_line_end}
 use Rattle.nxf_run.proofs.Complete.{lines_found}
 use Rattle.nxf_run.proofs.Sound.{lines_sound}

@@ -1,5 +1,5 @@
 -- The first bytes of a file decide whether it has the first form.
-use Rattle.std.proofs.Common.{◌≡◌, ◌≤◌, ◌<◌, ℕ, ◌+◌, List, length, take, Option, Some, Result, Ok, Err, sym, ap, subst, arith}
+use Rattle.std.proofs.Common.{◌≡◌, ◌≤◌, ℕ, ◌+◌, List, length, take, Option, Result, Ok, Err, sym, subst, arith}
 use Rattle.std.specs.Prelude.{◌⊎◌, MatchResult, IfErr}
 use mathlib.Core.Logic.{inl, inr}
 use Rattle.std.proofs.lemmas.Bool.{cases_lt}
@@ -9,8 +9,8 @@ use Rattle.nxf_base.specs.declared.status.Status.{Status}
 use Rattle.nxf_base.specs.declared.status.Status.TheVariants as status
 use Rattle.nxf_tree.specs.declared.tree.Formula.{Formula}
 use Rattle.nxf_run.specs.FirstGrammar.{HasFirstForm}
-use Rattle.nxf_run.specs.Answer.{IsAnswer, Holds, Translates, embed_stdin, stdin, no_file, other_form}
-use Rattle.nxf_run.specs.Steps.{HasOtherForm, Loaded, LoadRefuses, FileTranslates, FileRefuses, Refuses}
+use Rattle.nxf_run.specs.Answer.{IsAnswer, Translates, embed_stdin, stdin, no_file, other_form}
+use Rattle.nxf_run.specs.Steps.{HasOtherForm, Loaded, FileTranslates, FileRefuses, Refuses}
 
 -- a front that is no longer than the limit is the whole
 whole : (limit : ℕ) (bytes : List ℕ) → length (take (limit + 1) bytes) ≤ limit → take (limit + 1) bytes ≡ bytes

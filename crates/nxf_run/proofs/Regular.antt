@@ -1,5 +1,5 @@
 -- A formula of the first form has only its nodes, and is no deeper than its levels allow.
-use Rattle.std.proofs.Common.{◌≡◌, ◌≤◌, ℕ, suc, ◌+◌, ◌*◌, max, Bool, true, List, refl, arith, sym, ap, ◌∙◌}
+use Rattle.std.proofs.Common.{◌≡◌, ◌≤◌, ℕ, ◌+◌, ◌*◌, true, List, refl, arith}
 use Rattle.std.proofs.lemmas.Bool.{and_from}
 use Rattle.nxf_tree.specs.declared.tree.IndexName.TheVariants.{Plain}
 use Rattle.nxf_tree.specs.declared.tree.Mode.TheVariants as mode

@@ -1,5 +1,5 @@
 -- How a run ends: its status, what it leaves in the sinks, and where the causes of a status stand.
-use Rattle.std.specs.Prelude.{◌≡◌, ◌≢◌, ◌≤◌, ◌⊎◌, ℕ, List, [], ◌++◌, Option, Some, Result, Ok, Err}
+use Rattle.std.specs.Prelude.{◌≡◌, ◌≢◌, ◌≤◌, ◌⊎◌, ℕ, List, [], ◌++◌, Option, Some, Ok, Err}
 use Rattle.nxf_base.specs.Causes.{Rose}
 use Rattle.nxf_base.specs.Files.{Files}
 use Rattle.nxf_base.specs.Message.{message_of}

@@ -17,6 +17,11 @@ tff(p,type,p: mk_world > $o).
 tff(c,conjecture,! [W_0: mk_world] : ( mk_acc(mk_actual,W_0) => p(W_0) ) => p(mk_actual)).
 ";
 
+const NEGATED: &[u8] = b"tff(mk_world,type,mk_world: $tType).
+tff(mk_actual,type,mk_actual: mk_world).
+tff(p,type,p: mk_world > $o).
+tff(c,conjecture,";
+
 const ATOM: &[u8] =
     b"tff(l,logic,$modal == [$modalities == $modal_system_K]).\ntff(c,conjecture,p).";
 
@@ -38,13 +43,13 @@ fn problem(alloc: Global, rest: &[u8]) -> Result<Vec<u8>, Fail> {
     Ok(bytes)
 }
 
-// A conjecture that nests by so many negations.
-fn nested(alloc: Global, count: u32) -> Result<Vec<u8>, Fail> {
-    let mut bytes = HEAD.to_vec(alloc)?;
+// A text with so many negations in it.
+fn nested(alloc: Global, front: &[u8], count: u32, back: &[u8]) -> Result<Vec<u8>, Fail> {
+    let mut bytes = front.to_vec(alloc)?;
     for _ in 0..count {
         bytes.extend_from_slice(b"~ ")?;
     }
-    bytes.extend_from_slice(b"p).")?;
+    bytes.extend_from_slice(back)?;
     Ok(bytes)
 }
 
@@ -138,10 +143,18 @@ fn other_forms_are_refused(rt: HostRuntime) -> Result<(), Fail> {
 #[test]
 fn a_thousand_levels(rt: HostRuntime) -> Result<(), Fail> {
     let alloc = rt.alloc();
-    let most = outcome(alloc, b"embed", b"-", &nested(alloc, 999)?)?;
-    assert_eq!(rt; most.len(), 3 + 135 + 1998 + 15 + 1);
-    let more = outcome(alloc, b"embed", b"-", &nested(alloc, 1000)?)?;
-    assert_eq!(rt; more.as_slice(), b"21||not yet\n".as_slice());
+    let most = nested(alloc, HEAD, 999, b"p).")?;
+    let text = nested(alloc, NEGATED, 999, b"p(mk_actual)).\n")?;
+    let answer = summary(alloc, 0, &text, b"")?;
+    assert_eq!(rt;
+        outcome(alloc, b"embed", b"-", &most)?.as_slice(),
+        answer.as_slice()
+    );
+    let more = nested(alloc, HEAD, 1000, b"p).")?;
+    assert_eq!(rt;
+        outcome(alloc, b"embed", b"-", &more)?.as_slice(),
+        b"21||not yet\n".as_slice()
+    );
     Ok(())
 }
 

@@ -1,4 +1,3 @@
-use Rattle.std.proofs.Common.{◌≡◌}
 use Rattle.std.proofs.lemmas.Result.{MatchResult-weaker}
 use Rattle.nxf_run.proofs.Loading.{file_translates, file_refuses}
 use Rattle.nxf_run.proofs.prepare.embed_file.Goals as goal

@@ -1,4 +1,3 @@
-use Rattle.std.proofs.Common.{◌≡◌}
 use mathlib.Core.Logic.{inl}
 use Rattle.nxf_run.specs.Answer.{other_words}
 use Rattle.nxf_run.proofs.Loading.{named_refuses}

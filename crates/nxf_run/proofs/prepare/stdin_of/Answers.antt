@@ -1,5 +1,5 @@
-use Rattle.std.proofs.Common.{◌≡◌, arith, sym, ◌∙◌}
-use Rattle.nxf_run.proofs.Words.{as_asked, other_asked, other_count}
+use Rattle.std.proofs.Common.{arith, sym, ◌∙◌}
+use Rattle.nxf_run.proofs.Words.{as_asked}
 use Rattle.nxf_run.proofs.prepare.stdin_of.Goals as goal
 
 pub returns-then-is_embed_stdin : goal.returns-then-is_embed_stdin

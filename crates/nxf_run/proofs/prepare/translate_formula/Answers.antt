@@ -1,4 +1,4 @@
-use Rattle.std.proofs.Common.{◌≡◌, ◌∙◌, sym, ap, refl}
+use Rattle.std.proofs.Common.{◌∙◌, ap, refl}
 use Rattle.std.proofs.lemmas.Result.{MatchResult-weaker}
 use Rattle.nxf_tree.specs.FirstForm.{first_signature, first_problem}
 use Rattle.nxf_tree.specs.Text.{text_of, is_printable}

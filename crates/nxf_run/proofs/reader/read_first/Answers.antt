@@ -1,4 +1,4 @@
-use Rattle.std.proofs.Common.{arith, rules, length, sym, ap, ◌∙◌}
+use Rattle.std.proofs.Common.{arith, rules, sym, ap, ◌∙◌}
 use Rattle.std.proofs.lemmas.Grind.{common_steps}
 use Rattle.nxf_run.specs.Parse.{lines}
 use Rattle.nxf_run.proofs.Exact.{read, none_of, more_left}

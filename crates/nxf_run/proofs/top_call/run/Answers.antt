@@ -1,8 +1,8 @@
-use Rattle.std.proofs.Common.{◌≡◌, ◌≢◌, List, ℕ, Ok, Err, ap, sym, ◌∙◌}
+use Rattle.std.proofs.Common.{Err, ap}
 use Rattle.nxf_base.specs.declared.status.Status.TheVariants as status
 use Rattle.nxf_run.specs.Ending.{MayEnd}
 use Rattle.nxf_run.specs.Steps.{Refuses}
-use Rattle.nxf_run.proofs.Ending.{not_ok, never_ok, ends, reports, complete, refused_ends, write_fault_ends, no_memory_ends, is_answer, means}
+use Rattle.nxf_run.proofs.Ending.{not_ok, never_ok, ends, reports, complete, refused_ends, write_fault_ends, no_memory_ends, is_answer}
 use Rattle.nxf_run.proofs.top_call.run.Goals as goal
 
 -- ---- the text was written
