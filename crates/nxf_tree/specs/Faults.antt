@@ -11,4 +11,3 @@ first_fault judge k before (x ∷ xs) = option_or (option_map (λ fault. (k, fau
 abbrev pub unless : {A F : Type 0} → Option F → A → Result A F
 unless None answer = Ok answer
 unless (Some fault) answer = Err fault
-

@@ -52,12 +52,7 @@ pub fn quantified(
 }
 
 /// A formula under a box or a diamond.
-pub fn modal(
-    alloc: Global,
-    mode: Mode,
-    index: IndexName,
-    body: Formula,
-) -> Result<Formula, Memory>
+pub fn modal(alloc: Global, mode: Mode, index: IndexName, body: Formula) -> Result<Formula, Memory>
     ensures { IfOk result (λ f. f ≡ Modal1 mode index body) }
 {
     match boxed(alloc, body) {

@@ -76,10 +76,7 @@ impl LogicSpec {
             let copied = copy_entry(alloc, entry)?;
             entries.push(copied)?;
         }
-        Ok(LogicSpec {
-            logic,
-            entries,
-        })
+        Ok(LogicSpec { logic, entries })
     }
 }
 
@@ -122,10 +119,7 @@ impl Role {
     {
         let word = self.word.copy(alloc)?;
         match &self.suffix {
-            None => Ok(Role {
-                word,
-                suffix: None,
-            }),
+            None => Ok(Role { word, suffix: None }),
             Some(suffix) => Ok(Role {
                 word,
                 suffix: Some(suffix.copy(alloc)?),
@@ -164,11 +158,7 @@ impl Statement {
         ensures { IfOk result (λ s. s ≡ self.now) }
     {
         match self {
-            Statement::Annotated {
-                name,
-                role,
-                body,
-            } => {
+            Statement::Annotated { name, role, body } => {
                 let name = name.copy(alloc)?;
                 let role = role.copy(alloc)?;
                 Ok(Statement::Annotated {
@@ -177,10 +167,7 @@ impl Statement {
                     body: body.copy(alloc)?,
                 })
             }
-            Statement::Include {
-                file,
-                names: None,
-            } => Ok(Statement::Include {
+            Statement::Include { file, names: None } => Ok(Statement::Include {
                 file: file.copy(alloc)?,
                 names: None,
             }),
@@ -208,8 +195,6 @@ impl File {
             let copied = statement.copy(alloc)?;
             statements.push(copied)?;
         }
-        Ok(File {
-            statements,
-        })
+        Ok(File { statements })
     }
 }

@@ -1,6 +1,4 @@
-use crate::{
-    File, Formula, IndexEntry, IndexName, Scheme, Signature, Statement, Term, boxed,
-};
+use crate::{File, Formula, IndexEntry, IndexName, Scheme, Signature, Statement, Term, boxed};
 use nxf_base::{List, Memory, Text};
 use std::alloc::Global;
 use std::test::Fail;
@@ -40,9 +38,7 @@ fn files(rt: HostRuntime) -> Result<(), Fail> {
         file: Text::from_bytes(alloc, b"people.ax")?,
         names: None,
     })?;
-    let file = File {
-        statements,
-    };
+    let file = File { statements };
     assert_eq!(rt; file.copy(alloc)?.statements.len(), 1);
     Ok(())
 }
