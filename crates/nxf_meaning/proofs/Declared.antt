@@ -1,7 +1,7 @@
 -- The types of a file's symbols: a declared one has known sorts where no type statement has a fault, and an undeclared one has `$i` alone.
 use Rattle.std.proofs.Common.{◌≡◌, ℕ, zero, suc, Bool, true, false, List, [], ◌∷◌, ◌++◌, refl, sym, ap, ◌∙◌}
 use Rattle.std.specs.Prelude.{◌&&◌, ◌||◌, if◌then◌else◌, map, length, Option, None, Some, is_some}
-use Rattle.std.specs.Option.{option_or, option_map}
+use Rattle.std.specs.Option.{option_map}
 use Rattle.std.specs.List.{list_all}
 use Rattle.std.proofs.lemmas.Bool.{and_from, or_left, or_right}
 use Rattle.std.proofs.lemmas.List.Folds.{list_all-append}
@@ -24,7 +24,7 @@ use Rattle.nxf_tree.specs.Signature.{same_sort}
 use Rattle.nxf_tree.specs.Faults.{first_fault}
 use Rattle.nxf_tree.specs.Sorting.{SymbolType, Language}
 use Rattle.nxf_tree.specs.Specification.{override_list}
-use Rattle.nxf_tree.specs.Occurrences.{Use, Occurrence, individuals, use_with, row_length, term_uses, row_uses, terms_uses, occurrences, row_occurrences, key_occurrences, override_occurrences, statement_occurrences, occurrences_in, uses, declared, declared_sorts}
+use Rattle.nxf_tree.specs.Occurrences.{Use, Occurrence, individuals, use_with, row_length, term_uses, row_uses, terms_uses, occurrences, row_occurrences, key_occurrences, override_occurrences, occurrences_in, uses, declared, declared_sorts}
 use Rattle.nxf_tree.specs.SignatureOf.{type_in}
 use Rattle.nxf_tree.specs.SortFaults.{SortFault, unknown_sorts, gives_list, declared_again, type_statement_fault}
 use Rattle.nxf_meaning.proofs.Spelling.{same_text-refl, same_text-true, true-false}
@@ -60,17 +60,18 @@ module _ (L : Language) where
       let here : type_statement_fault L before s ≡ None = map-none _ _ parts.0 in
       split_bool (same_text g f)
       (λ e.
-        let is : own ≡ t = own-type own t (sym (rw e refl) ∙ found) in
-        let name-is : g ≡ f = same_text-true g f e in
-        let again : declared_again L g own (type_in (declared before) g) ≡ None = not-a-sort (has same_sort (User g) (declared_sorts before)) (DoubleName, g) _ here in
-        let unknown : unknown_sorts L (own.args ++ gives_list own.gives) ≡ None = sym (ap (declared_again L g own) (ap (type_in (declared before)) name-is ∙ none)) ∙ again in
-        ap (λ (u : SymbolType). unknown_sorts L (u.args ++ gives_list u.gives)) (sym is) ∙ unknown)
+      let is : own ≡ t = own-type own t (sym (rw e refl) ∙ found) in
+      let name-is : g ≡ f = same_text-true g f e in
+      let again : declared_again L g own (type_in (declared before) g) ≡ None = not-a-sort (has same_sort (User g) (declared_sorts before)) (DoubleName, g) _ here in
+      let unknown : unknown_sorts L (own.args ++ gives_list own.gives) ≡ None = sym (ap (declared_again L g own) (ap (type_in (declared before)) name-is ∙ none)) ∙ again in
+      ap (λ (u : SymbolType). unknown_sorts L (u.args ++ gives_list u.gives)) (sym is) ∙ unknown)
       (λ e. declared-known (suc k) (before ++ s ∷ []) ss parts.1 f t
-        (ap (λ l. type_in l f) (declared-append before (s ∷ [])) ∙ (type_in-after (declared before) (declared (s ∷ [])) f none ∙ rw e refl))
-        (sym (rw e refl) ∙ found))
+      (ap (λ l. type_in l f) (declared-append before (s ∷ [])) ∙ (type_in-after (declared before) (declared (s ∷ [])) f none ∙ rw e refl))
+      (sym (rw e refl) ∙ found))
     where
       own-type : (a b : SymbolType) → Some a ≡ Some b → a ≡ b
       own-type a b e = cc
+
       not-a-sort : (b : Bool) (x : SortFault) (o : Option SortFault) → (if b then Some x else o) ≡ None → o ≡ None
       not-a-sort true x o e = absurd (some-none x e)
       not-a-sort false x o e = e
@@ -181,6 +182,7 @@ module _ (us : List Use) where
       found : (b : Bool) (t : SymbolType) (o : Option SymbolType) → b ≡ true → is_some (if b then Some t else o) ≡ true
       found true t o e = refl
       found false t o e = absurd (true-false (sym e))
+
       later : (b : Bool) (t : SymbolType) (o : Option SymbolType) → is_some o ≡ true → is_some (if b then Some t else o) ≡ true
       later true t o e = refl
       later false t o e = e

@@ -1,8 +1,8 @@
 -- A file in the profile has a good signature, and is well sorted over it.
 use Rattle.std.proofs.Common.{◌≡◌, ℕ, suc, ◌+◌, Bool, true, false, List, [], ◌∷◌, ◌++◌, refl, sym, ap, ◌∙◌, arith}
 use Rattle.std.specs.Prelude.{◌&&◌, ◌||◌, not, if◌then◌else◌, map, filter, Option, None, Some, is_some}
-use Rattle.std.specs.Option.{option_or, option_map, unwrap_or}
-use Rattle.std.specs.List.{list_all, list_any, position_or_len}
+use Rattle.std.specs.Option.{option_map, unwrap_or}
+use Rattle.std.specs.List.{list_all, position_or_len}
 use Rattle.std.proofs.lemmas.Bool.{or_left, or_right, and_from, and_parts, not-true}
 use Rattle.std.proofs.lemmas.List.Folds.{list_all-append, list_all-map}
 use Rattle.nxf_tree.specs.declared.tree.SortName.{SortName}
@@ -25,14 +25,13 @@ use Rattle.nxf_tree.specs.Faults.{first_fault}
 use Rattle.nxf_tree.specs.Sorting.{SymbolType, Language, modal_language, statement_is_sorted, IsWellSorted, in_range, gives_in_range}
 use Rattle.nxf_tree.specs.WellFormed.{HasDifferentNames, HasSortsInRange}
 use Rattle.nxf_tree.specs.Specification.{Specification}
-use Rattle.nxf_tree.specs.Occurrences.{Use, Occurrence, uses, sorts, indexes, declared, declared_sorts, statement_occurrences, occurrences_in}
+use Rattle.nxf_tree.specs.Occurrences.{Use, uses, indexes, declared, declared_sorts, statement_occurrences, occurrences_in}
 use Rattle.nxf_tree.specs.SignatureOf.{firsts, same_symbol, type_in, typed, symbols_of, is_individual, mentions_individual, has_individual, sorts_of_file, is_named, indexes_of_file, sort_number, symbol_entry, signature_of}
-use Rattle.nxf_tree.specs.SortFaults.{unknown_sort, unknown_sorts, gives_list, type_statement_fault, formula_statement_fault, overrides_fault, sort_fault_of}
+use Rattle.nxf_tree.specs.SortFaults.{unknown_sort, unknown_sorts, gives_list, type_statement_fault, formula_statement_fault, sort_fault_of}
 use Rattle.nxf_meaning.proofs.Spelling.{same_text-refl, same_text-true, both_ways, true-false}
-use Rattle.nxf_meaning.proofs.Apart.{sort-true, index-true}
-use Rattle.nxf_meaning.proofs.SortedFormulas.{same_sort-refl}
+use Rattle.nxf_meaning.proofs.Apart.{index-true}
 use Rattle.nxf_meaning.proofs.Firsts.{split_bool, firsts-different, firsts-none, has-filter, has-firsts, all-by_has, firsts-all, implies-any}
-use Rattle.nxf_meaning.proofs.NoFault.{some-none, or-none, map-none, test-passes, index-append, no-fault}
+use Rattle.nxf_meaning.proofs.NoFault.{or-none, map-none, test-passes, index-append, no-fault}
 use Rattle.nxf_meaning.proofs.GoodSymbols.{users-different, different-together}
 use Rattle.nxf_meaning.proofs.NamesOfFile.{is_apart, apart, statements-apart, disjoint, walked}
 use Rattle.nxf_meaning.proofs.Declared.{declared-known, is_plain_gives, is_plain_type, is_good_use, statements-good}
@@ -104,10 +103,10 @@ number-in-range f [] s h = h
 number-in-range f (r ∷ ss) s h = split_bool (same_sort r s)
     (λ e. ap (λ b. in_range (map f (r ∷ ss)) (if not b then 1 + position_or_len (same_sort s) ss else 0)) (same_sort-sym s r ∙ e))
     (λ e. ap (λ b. in_range (map f (r ∷ ss)) (if not b then 1 + position_or_len (same_sort s) ss else 0)) (same_sort-sym s r ∙ e)
-      ∙ (ap (in_range (map f (r ∷ ss))) (one-more (position_or_len (same_sort s) ss)) ∙ number-in-range f ss s (sym (rw e refl) ∙ h)))
-    where
-      one-more : (n : ℕ) → 1 + n ≡ suc n
-      one-more n = omega arith
+    ∙ (ap (in_range (map f (r ∷ ss))) (one-more (position_or_len (same_sort s) ss)) ∙ number-in-range f ss s (sym (rw e refl) ∙ h)))
+  where
+    one-more : (n : ℕ) → 1 + n ≡ suc n
+    one-more n = omega arith
 
 module _ (spec : Specification) (file : File) (ok : sort_fault_of spec file ≡ None) where
   abbrev ss : List Statement
@@ -148,6 +147,7 @@ module _ (spec : Specification) (file : File) (ok : sort_fault_of spec file ≡ 
           by : (c : Bool) → has same_sort (User f) (if c then Individual ∷ firsts same_sort (declared_sorts ss) else firsts same_sort (declared_sorts ss)) ≡ false
           by true = firsts-none same_sort (User f) (declared_sorts ss) e
           by false = firsts-none same_sort (User f) (declared_sorts ss) e
+
       alike : (us : List Use) → disjoint us (declared_sorts ss) ≡ true → apart L (declared ss) us ≡ true
       alike [] d = refl
       alike (u ∷ us) d =
@@ -265,6 +265,7 @@ module _ (spec : Specification) (file : File) (ok : sort_fault_of spec file ≡ 
       front : (b : Bool) (j : IndexName) (is : List IndexName) → has same_index j is ≡ true → has same_index j (if b then Plain ∷ is else is) ≡ true
       front true j is k = or_right _ _ k
       front false j is k = k
+
       by : (j : IndexName) → has same_index j (indexes (occurrences_in ss)) ≡ true → has same_index j (indexes_of_file ss) ≡ true
       by Plain k = ap (λ b. has same_index Plain (if b then Plain ∷ firsts same_index (filter is_named (indexes (occurrences_in ss))) else firsts same_index (filter is_named (indexes (occurrences_in ss))))) k
       by (Named a) k = front (has same_index Plain (indexes (occurrences_in ss))) (Named a) (firsts same_index (filter is_named (indexes (occurrences_in ss))))
