@@ -1,14 +1,14 @@
 -- Short words for the trees, files and readings of the worked cases.
-use Rattle.std.specs.Prelude.{ℕ, Bool, List, [], ◌∷◌, ◌++◌, codes, Option, None, Some, Result, Ok, Err}
+use Rattle.std.specs.Prelude.{ℕ, List, [], ◌∷◌, codes, Option, None, Some, Result, Ok, Err}
 use Rattle.nxf_tree.specs.declared.tree.IndexName.{IndexName}
-use Rattle.nxf_tree.specs.declared.tree.IndexName.TheVariants.{Plain, Named}
+use Rattle.nxf_tree.specs.declared.tree.IndexName.TheVariants.{Plain}
 use Rattle.nxf_tree.specs.declared.tree.SortName.{SortName}
-use Rattle.nxf_tree.specs.declared.tree.SortName.TheVariants.{Individual, User}
+use Rattle.nxf_tree.specs.declared.tree.SortName.TheVariants.{User}
 use Rattle.nxf_tree.specs.declared.tree.Regime.{Regime}
 use Rattle.nxf_tree.specs.declared.tree.Designation.{Designation}
-use Rattle.nxf_tree.specs.declared.tree.Designation.TheVariants.{Rigid, Flexible}
+use Rattle.nxf_tree.specs.declared.tree.Designation.TheVariants.{Flexible}
 use Rattle.nxf_tree.specs.declared.tree.Locality.{Locality}
-use Rattle.nxf_tree.specs.declared.tree.Locality.TheVariants.{Local, Global}
+use Rattle.nxf_tree.specs.declared.tree.Locality.TheVariants.{Global}
 use Rattle.nxf_tree.specs.declared.tree.Scheme.{Scheme}
 use Rattle.nxf_tree.specs.declared.tree.SortEntry.{SortEntry}
 use Rattle.nxf_tree.specs.declared.tree.SymbolEntry.{SymbolEntry}
@@ -17,20 +17,18 @@ use Rattle.nxf_tree.specs.declared.tree.Signature.{Signature}
 use Rattle.nxf_tree.specs.declared.tree.Quantifier.TheVariants.{All, Exists}
 use Rattle.nxf_tree.specs.declared.tree.Mode.TheVariants.{Box, Dia}
 use Rattle.nxf_tree.specs.declared.tree.Op.TheVariants.{Implies}
-use Rattle.nxf_tree.specs.declared.tree.Term.{Term, Var, App}
-use Rattle.nxf_tree.specs.declared.tree.Formula.{Formula, Atom, Same}
+use Rattle.nxf_tree.specs.declared.tree.Term.{Term, Var}
+use Rattle.nxf_tree.specs.declared.tree.Formula.{Formula, Atom}
 use Rattle.nxf_tree.specs.declared.tree.Typing.TheVariants.{Sort, Symbol}
-use Rattle.nxf_tree.specs.declared.tree.LogicSpec.{LogicSpec}
 use Rattle.nxf_tree.specs.declared.tree.SpecKey.TheVariants.{Dollar}
 use Rattle.nxf_tree.specs.declared.tree.SpecEntry.{SpecEntry}
-use Rattle.nxf_tree.specs.declared.tree.SpecValue.{SpecValue, Word, Items}
+use Rattle.nxf_tree.specs.declared.tree.SpecValue.{Word, Items}
 use Rattle.nxf_tree.specs.declared.tree.SpecItem.{SpecItem}
-use Rattle.nxf_tree.specs.declared.tree.Role.{Role}
 use Rattle.nxf_tree.specs.declared.tree.Body.TheVariants.{Formula as IsFormula, Logic as IsLogic}
 use Rattle.nxf_tree.specs.declared.tree.Statement.{Statement}
 use Rattle.nxf_tree.specs.declared.tree.Statement.TheVariants.{Annotated}
 use Rattle.nxf_tree.specs.declared.tree.File.{File}
-use Rattle.nxf_tree.specs.Shapes.{And2, Pair2, Quant1, Modal1, Name0}
+use Rattle.nxf_tree.specs.Shapes.{Pair2, Quant1, Modal1, Name0}
 use Rattle.nxf_tree.specs.Problem.{role_of, statement_of, declaration, problem_of}
 use Rattle.nxf_tree.specs.Profile.{Problem, Refusal, problem_in}
 

@@ -1,7 +1,7 @@
 -- The types of a file's symbols: a declared one has known sorts where no type statement has a fault, and an undeclared one has `$i` alone.
 use Rattle.std.proofs.Common.{◌≡◌, ℕ, zero, suc, Bool, true, false, List, [], ◌∷◌, ◌++◌, refl, sym, ap, ◌∙◌}
 use Rattle.std.specs.Prelude.{◌&&◌, ◌||◌, if◌then◌else◌, map, length, Option, None, Some, is_some}
-use Rattle.std.specs.Option.{option_or, option_map}
+use Rattle.std.specs.Option.{option_map}
 use Rattle.std.specs.List.{list_all}
 use Rattle.std.proofs.lemmas.Bool.{and_from, or_left, or_right}
 use Rattle.std.proofs.lemmas.List.Folds.{list_all-append}
@@ -24,7 +24,7 @@ use Rattle.nxf_tree.specs.Signature.{same_sort}
 use Rattle.nxf_tree.specs.Faults.{first_fault}
 use Rattle.nxf_tree.specs.Sorting.{SymbolType, Language}
 use Rattle.nxf_tree.specs.Specification.{override_list}
-use Rattle.nxf_tree.specs.Occurrences.{Use, Occurrence, individuals, use_with, row_length, term_uses, row_uses, terms_uses, occurrences, row_occurrences, key_occurrences, override_occurrences, statement_occurrences, occurrences_in, uses, declared, declared_sorts}
+use Rattle.nxf_tree.specs.Occurrences.{Use, Occurrence, individuals, use_with, row_length, term_uses, row_uses, terms_uses, occurrences, row_occurrences, key_occurrences, override_occurrences, occurrences_in, uses, declared, declared_sorts}
 use Rattle.nxf_tree.specs.SignatureOf.{type_in}
 use Rattle.nxf_tree.specs.SortFaults.{SortFault, unknown_sorts, gives_list, declared_again, type_statement_fault}
 use Rattle.nxf_meaning.proofs.Spelling.{same_text-refl, same_text-true, true-false}

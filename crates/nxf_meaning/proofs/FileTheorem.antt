@@ -1,12 +1,11 @@
 -- The embedding theorem at the signature of the file.
-use Rattle.std.proofs.Common.{◌≡◌, ℕ, List, [], ◌∷◌, refl, sym, ap, subst, ◌∙◌}
+use Rattle.std.proofs.Common.{◌≡◌, ℕ, List, [], ◌∷◌, refl, sym, ap, subst}
 use Rattle.std.specs.List.{All, slice_index_or}
 use Rattle.std.proofs.lemmas.List.Elements.{All-map}
 use Rattle.std.specs.Prelude.{map, Option, None, Some, Result, Ok, Err}
 use Rattle.nxf_base.specs.declared.status.RoleKind.{RoleKind}
 use Rattle.nxf_base.specs.declared.status.SpecKind.{SpecKind}
 use Rattle.nxf_tree.specs.declared.tree.PartEntry.{PartEntry}
-use Rattle.nxf_tree.specs.declared.tree.Signature.{Signature}
 use Rattle.nxf_tree.specs.declared.tree.File.{File}
 use Rattle.nxf_tree.specs.Parts.{parts_of}
 use Rattle.nxf_tree.specs.declared.tree.IndexName.{IndexName}
@@ -19,8 +18,8 @@ use Rattle.nxf_tree.specs.Specification.{Specification, logic_fault, words_for, 
 use Rattle.nxf_tree.specs.SignatureOf.{indexes_of_file, signature_of}
 use Rattle.nxf_tree.specs.WellFormed.{AreOrdered}
 use Rattle.nxf_tree.specs.SortFaults.{SortFault, sort_fault_of}
-use Rattle.nxf_tree.specs.Profile.{Problem, Refusal, with_sorts, with_spec, with_parts}
-use Rattle.nxf_meaning.specs.Laws.{IsGoodReading, ProfileLaw, KeepsCountermodels, FileTheorem}
+use Rattle.nxf_tree.specs.Profile.{Problem, with_sorts, with_spec, with_parts}
+use Rattle.nxf_meaning.specs.Laws.{IsGoodReading, ProfileLaw, FileTheorem}
 use Rattle.nxf_meaning.proofs.Schemes.{schemes-ordered}
 use Rattle.nxf_meaning.proofs.ProfileLaw.{different, in-range, well-sorted}
 use Rattle.nxf_meaning.proofs.FileLaw.{file-law}

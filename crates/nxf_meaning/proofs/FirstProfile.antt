@@ -1,12 +1,10 @@
 -- A problem of the first form is in the profile, and its signature is the one that its formula shows.
 use Rattle.std.proofs.Common.{◌≡◌, ℕ, Bool, true, false, List, [], ◌∷◌, ◌++◌, refl, sym, ap, ◌∙◌}
-use Rattle.std.specs.Prelude.{◌&&◌, ◌||◌, not, if◌then◌else◌, map, filter, length, codes, Option, None, Some, Ok}
+use Rattle.std.specs.Prelude.{◌&&◌, ◌||◌, not, if◌then◌else◌, map, filter, None, Ok}
 use Rattle.std.specs.List.{list_all, list_any}
-use Rattle.std.proofs.lemmas.Bool.{and_parts, or_right}
+use Rattle.std.proofs.lemmas.Bool.{and_parts}
 use Rattle.std.proofs.lemmas.List.{map-append, append-nil}
 use Rattle.std.proofs.lemmas.List.Folds.{list_all-append}
-use Rattle.nxf_tree.specs.declared.tree.Regime.TheVariants.{Constant}
-use Rattle.nxf_tree.specs.declared.tree.SortName.{SortName}
 use Rattle.nxf_tree.specs.declared.tree.SortName.TheVariants.{Individual, User}
 use Rattle.nxf_tree.specs.declared.tree.IndexName.{IndexName}
 use Rattle.nxf_tree.specs.declared.tree.IndexName.TheVariants.{Plain, Named}
@@ -14,12 +12,8 @@ use Rattle.nxf_tree.specs.declared.tree.Mode.{Mode}
 use Rattle.nxf_tree.specs.declared.tree.Mode.TheVariants.{Box, Dia}
 use Rattle.nxf_tree.specs.declared.tree.Scope.TheVariants.{Local}
 use Rattle.nxf_tree.specs.declared.tree.Part.TheVariants.{Conjecture}
-use Rattle.nxf_tree.specs.declared.tree.PartEntry.{PartEntry}
-use Rattle.nxf_tree.specs.declared.tree.Signature.{Signature}
-use Rattle.nxf_tree.specs.declared.tree.SymbolEntry.{SymbolEntry}
 use denote.Hole.Carrier
-use Rattle.nxf_tree.specs.declared.tree.SpecValue.{out-SpecValue, roll-SpecValue}
-use Rattle.nxf_tree.specs.declared.tree.SpecItem.{out-SpecItem, roll-SpecItem}
+use Rattle.nxf_tree.specs.declared.tree.SpecValue.{out-SpecValue}
 use Rattle.nxf_tree.specs.declared.tree.File.{File}
 use Rattle.nxf_tree.specs.declared.tree.Formula.{Formula, True, False, Atom, Same, Differ, And', Or', Distinct}
 use Rattle.nxf_tree.specs.Shapes.{Not1, Pair2, Quant1, Modal1}
@@ -27,12 +21,12 @@ use Rattle.nxf_tree.specs.Names.{same_text}
 use Rattle.nxf_tree.specs.Counting.{has}
 use Rattle.nxf_tree.specs.Signature.{same_sort, same_index}
 use Rattle.nxf_tree.specs.Sorting.{Language, type_among, modal_language}
-use Rattle.nxf_tree.specs.Specification.{Specification, specification, spec_of, setting_of}
+use Rattle.nxf_tree.specs.Specification.{Specification, specification, setting_of}
 use Rattle.nxf_tree.specs.SpecificationWords.{system_named, axiom_named, same_scheme}
 use Rattle.nxf_tree.specs.Occurrences.{Use, Occurrence, symbol, sort, index, use_with, uses, sorts, indexes, occurrences, occurrences_in}
 use Rattle.nxf_tree.specs.SignatureOf.{firsts, same_symbol, typed, symbols_of, mentions_individual, has_individual, sorts_of_file, is_named, indexes_of_file, symbol_entry, signature_of}
 use Rattle.nxf_tree.specs.SortFaults.{is_right_use, symbol_fault, formula_fault, sorts_fault, sort_fault_of}
-use Rattle.nxf_tree.specs.Profile.{Problem, problem_in, with_sorts, with_spec}
+use Rattle.nxf_tree.specs.Profile.{Problem, problem_in, with_sorts}
 use Rattle.nxf_tree.specs.FirstForm.{is_implication, is_plain_box, is_first, predicates_in, each_once, has_modality, proposition, plain_index, system_k, first_signature, first_problem}
 use Rattle.nxf_meaning.proofs.Spelling.{same_text-refl, same_text-true, true-false}
 use Rattle.nxf_meaning.proofs.Firsts.{split_bool, has-firsts, all-by_has}

@@ -1,24 +1,17 @@
 -- In a list of different names, each stands for what is at its place.
-use Rattle.std.proofs.Common.{◌≡◌, ℕ, zero, suc, Bool, true, false, List, [], ◌∷◌, refl, sym, ap, ◌∙◌}
-use Rattle.std.specs.Prelude.{◌&&◌, ◌||◌, not, if◌then◌else◌, slice_get, Option, None, Some}
-use Rattle.nxf_tree.specs.declared.tree.SortName.{SortName}
-use Rattle.nxf_tree.specs.declared.tree.SortName.TheVariants.{Individual, User}
-use Rattle.nxf_tree.specs.declared.tree.IndexName.{IndexName}
-use Rattle.nxf_tree.specs.declared.tree.IndexName.TheVariants.{Plain, Named}
-use Rattle.nxf_tree.specs.declared.tree.Signature.{Signature}
+use Rattle.std.proofs.Common.{◌≡◌, ℕ, zero, suc, Bool, true, false, List, [], ◌∷◌, sym, ap, ◌∙◌}
+use Rattle.std.specs.Prelude.{◌||◌, not, if◌then◌else◌, slice_get, Some}
 use Rattle.std.proofs.lemmas.Bool.{or_right, not-true}
-use Rattle.nxf_tree.specs.Names.{same_text, actual_name}
+use Rattle.nxf_tree.specs.Names.{same_text}
 use Rattle.nxf_tree.specs.Counting.{has, all_different}
 use Rattle.nxf_tree.specs.Signature.{same_sort, same_index, sort_names, existence_sorts, symbol_names, index_names}
 use Rattle.nxf_tree.specs.Rows.{Rows, beside, under}
 use Rattle.nxf_tree.specs.Structures.{table_names}
 use Rattle.nxf_tree.specs.ClassicalSignature.{classical_signature_of}
-use Rattle.nxf_meaning.specs.Laws.{HasDifferentClassicalNames, Found, NamesFound, FoundLaw}
+use Rattle.nxf_meaning.specs.Laws.{HasDifferentClassicalNames, Found, FoundLaw}
 use Rattle.nxf_meaning.proofs.Spelling.{same_text-refl, never, true-false}
-use Rattle.nxf_meaning.proofs.Firsts.{split_bool}
 use Rattle.nxf_meaning.proofs.ProfileLaw.{same_text-sym, same_sort-sym, same_index-sym, same_index-refl}
 use Rattle.nxf_meaning.proofs.SortedFormulas.{same_sort-refl}
-use Rattle.nxf_tree.specs.WellFormed.{HasDifferentNames}
 use Rattle.nxf_meaning.proofs.GoodSymbols.{DifferentParts, parts-of-names}
 use Rattle.nxf_meaning.proofs.NamesDiffer.{names-differ, existence-sorts-different}
 use Rattle.nxf_meaning.proofs.Types.{split}

@@ -1,18 +1,17 @@
 -- No symbol of a file without a fault has the name of a sort.
 use Rattle.std.proofs.Common.{◌≡◌, ℕ, suc, Bool, true, false, List, [], ◌∷◌, ◌++◌, refl, sym, ap, ◌∙◌}
-use Rattle.std.specs.Prelude.{◌&&◌, ◌||◌, not, if◌then◌else◌, map, length, Option, None, Some, is_some}
+use Rattle.std.specs.Prelude.{◌||◌, not, if◌then◌else◌, map, length, Option, None, Some, is_some}
 use Rattle.std.specs.Option.{option_or, option_map}
 use Rattle.std.specs.List.{list_all}
-use Rattle.std.proofs.lemmas.Bool.{and_from, and_parts, not-true}
+use Rattle.std.proofs.lemmas.Bool.{and_from, and_parts}
 use Rattle.std.proofs.lemmas.List.{append-nil, append_assoc}
 use Rattle.std.proofs.lemmas.List.Folds.{list_all-append}
-use Rattle.nxf_base.specs.declared.status.SortKind.TheVariants.{DoubleName, Mismatch}
+use Rattle.nxf_base.specs.declared.status.SortKind.TheVariants.{DoubleName}
 use Rattle.nxf_tree.specs.declared.tree.SortName.{SortName}
-use Rattle.nxf_tree.specs.declared.tree.SortName.TheVariants.{Individual, User}
+use Rattle.nxf_tree.specs.declared.tree.SortName.TheVariants.{User}
 use Rattle.nxf_tree.specs.declared.tree.SpecKey.{SpecKey}
 use Rattle.nxf_tree.specs.declared.tree.SpecKey.TheVariants.{Dollar, Name, Index}
 use Rattle.nxf_tree.specs.declared.tree.Override.{Override}
-use Rattle.nxf_tree.specs.declared.tree.Typing.{Typing}
 use Rattle.nxf_tree.specs.declared.tree.Typing.TheVariants.{Individual as IsIndividual, Sort, Symbol}
 use Rattle.nxf_tree.specs.declared.tree.Body.TheVariants.{Formula as IsFormula, Typing as IsTyping, Logic as IsLogic}
 use Rattle.nxf_tree.specs.declared.tree.Statement.{Statement}
@@ -24,13 +23,12 @@ use Rattle.nxf_tree.specs.Names.{same_text}
 use Rattle.nxf_tree.specs.Counting.{has}
 use Rattle.nxf_tree.specs.Signature.{same_sort}
 use Rattle.nxf_tree.specs.Faults.{first_fault}
-use Rattle.nxf_tree.specs.Sorting.{SymbolType, Language, Bound, sort_of, have_one_sort}
+use Rattle.nxf_tree.specs.Sorting.{SymbolType, Language, Bound, sort_of}
 use Rattle.nxf_tree.specs.Specification.{override_list}
-use Rattle.nxf_tree.specs.Occurrences.{Use, Occurrence, row_length, term_uses, row_uses, terms_uses, occurrences, row_occurrences, key_occurrences, override_occurrences, statement_occurrences, occurrences_in, uses, declared, declared_sorts}
+use Rattle.nxf_tree.specs.Occurrences.{Use, Occurrence, row_length, term_uses, row_uses, terms_uses, occurrences, row_occurrences, key_occurrences, override_occurrences, occurrences_in, uses, declared, declared_sorts}
 use Rattle.nxf_tree.specs.SignatureOf.{type_in}
-use Rattle.nxf_tree.specs.SortFaults.{SortFault, unknown_sort, is_right_use, symbol_fault, argument_types, wrong_sort, term_fault, row_fault, arguments_fault, equation_fault, formula_fault, formulas_fault, formula_statement_fault, typing_fault, declared_again, type_statement_fault}
+use Rattle.nxf_tree.specs.SortFaults.{SortFault, unknown_sort, symbol_fault, argument_types, wrong_sort, term_fault, row_fault, arguments_fault, equation_fault, formula_fault, formulas_fault, formula_statement_fault, type_statement_fault}
 use Rattle.nxf_meaning.proofs.Spelling.{true-false, same_text-true, same_text-refl, never}
-use Rattle.nxf_meaning.proofs.Firsts.{split_bool}
 use Rattle.nxf_meaning.proofs.NoFault.{some-none, or-none, map-none}
 use Rattle.nxf_meaning.proofs.Declared.{declared-append, uses-append, uses-symbols}
 use Rattle.nxf_meaning.proofs.GoodSymbols.{has-append}

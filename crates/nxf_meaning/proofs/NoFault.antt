@@ -1,6 +1,6 @@
 -- A formula without a fault is closed and well sorted.
-use Rattle.std.proofs.Common.{◌≡◌, ℕ, suc, Bool, true, false, List, [], ◌∷◌, ◌++◌, refl, sym, ap, ◌∙◌, arith}
-use Rattle.std.specs.Prelude.{◌&&◌, ◌||◌, not, nat_eq, if◌then◌else◌, map, length, codes, Option, None, Some, is_some}
+use Rattle.std.proofs.Common.{◌≡◌, ℕ, Bool, true, false, List, [], ◌∷◌, ◌++◌, refl, sym, ap, ◌∙◌, arith}
+use Rattle.std.specs.Prelude.{nat_eq, if◌then◌else◌, map, length, codes, Option, None, Some, is_some}
 use Rattle.std.specs.Option.{option_or, option_map, is_none}
 use Rattle.std.specs.List.{list_all}
 use Rattle.std.proofs.lemmas.Bool.{eqb-true, and_parts, and_from}
@@ -14,11 +14,10 @@ use Rattle.nxf_tree.specs.declared.tree.Formula.{Formula, True, False, Atom, Sam
 use Rattle.nxf_tree.specs.Shapes.{Not1, Pair2, Quant1, Modal1}
 use Rattle.nxf_tree.specs.Counting.{same_truth}
 use Rattle.nxf_tree.specs.Sorting.{SymbolType, Language, Bound, is_sort, fit, is_atom, have_one_sort, sort_of, is_sorted, are_sorted}
-use Rattle.nxf_tree.specs.Occurrences.{Use, Occurrence, symbol, indexes, occurrences, row_occurrences, terms_uses, term_uses}
+use Rattle.nxf_tree.specs.Occurrences.{Use, Occurrence, indexes, occurrences, row_occurrences}
 use Rattle.nxf_tree.specs.SignatureOf.{type_in}
 use Rattle.nxf_tree.specs.SortFaults.{SortFault, unknown_sort, is_right_use, symbol_fault, argument_types, wrong_sort, term_fault, arguments_fault, equation_fault, formula_fault, formulas_fault}
 use Rattle.nxf_meaning.proofs.Spelling.{true-false}
-use Rattle.nxf_meaning.proofs.Firsts.{split_bool}
 
 pub some-none : {A : Type 0} (x : A) → Some x ≡ None → ⊥
 some-none x e = cc

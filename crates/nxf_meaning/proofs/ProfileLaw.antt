@@ -1,8 +1,8 @@
 -- A file in the profile has a good signature, and is well sorted over it.
 use Rattle.std.proofs.Common.{◌≡◌, ℕ, suc, ◌+◌, Bool, true, false, List, [], ◌∷◌, ◌++◌, refl, sym, ap, ◌∙◌, arith}
 use Rattle.std.specs.Prelude.{◌&&◌, ◌||◌, not, if◌then◌else◌, map, filter, Option, None, Some, is_some}
-use Rattle.std.specs.Option.{option_or, option_map, unwrap_or}
-use Rattle.std.specs.List.{list_all, list_any, position_or_len}
+use Rattle.std.specs.Option.{option_map, unwrap_or}
+use Rattle.std.specs.List.{list_all, position_or_len}
 use Rattle.std.proofs.lemmas.Bool.{or_left, or_right, and_from, and_parts, not-true}
 use Rattle.std.proofs.lemmas.List.Folds.{list_all-append, list_all-map}
 use Rattle.nxf_tree.specs.declared.tree.SortName.{SortName}
@@ -25,14 +25,13 @@ use Rattle.nxf_tree.specs.Faults.{first_fault}
 use Rattle.nxf_tree.specs.Sorting.{SymbolType, Language, modal_language, statement_is_sorted, IsWellSorted, in_range, gives_in_range}
 use Rattle.nxf_tree.specs.WellFormed.{HasDifferentNames, HasSortsInRange}
 use Rattle.nxf_tree.specs.Specification.{Specification}
-use Rattle.nxf_tree.specs.Occurrences.{Use, Occurrence, uses, sorts, indexes, declared, declared_sorts, statement_occurrences, occurrences_in}
+use Rattle.nxf_tree.specs.Occurrences.{Use, uses, indexes, declared, declared_sorts, statement_occurrences, occurrences_in}
 use Rattle.nxf_tree.specs.SignatureOf.{firsts, same_symbol, type_in, typed, symbols_of, is_individual, mentions_individual, has_individual, sorts_of_file, is_named, indexes_of_file, sort_number, symbol_entry, signature_of}
-use Rattle.nxf_tree.specs.SortFaults.{unknown_sort, unknown_sorts, gives_list, type_statement_fault, formula_statement_fault, overrides_fault, sort_fault_of}
+use Rattle.nxf_tree.specs.SortFaults.{unknown_sort, unknown_sorts, gives_list, type_statement_fault, formula_statement_fault, sort_fault_of}
 use Rattle.nxf_meaning.proofs.Spelling.{same_text-refl, same_text-true, both_ways, true-false}
-use Rattle.nxf_meaning.proofs.Apart.{sort-true, index-true}
-use Rattle.nxf_meaning.proofs.SortedFormulas.{same_sort-refl}
+use Rattle.nxf_meaning.proofs.Apart.{index-true}
 use Rattle.nxf_meaning.proofs.Firsts.{split_bool, firsts-different, firsts-none, has-filter, has-firsts, all-by_has, firsts-all, implies-any}
-use Rattle.nxf_meaning.proofs.NoFault.{some-none, or-none, map-none, test-passes, index-append, no-fault}
+use Rattle.nxf_meaning.proofs.NoFault.{or-none, map-none, test-passes, index-append, no-fault}
 use Rattle.nxf_meaning.proofs.GoodSymbols.{users-different, different-together}
 use Rattle.nxf_meaning.proofs.NamesOfFile.{is_apart, apart, statements-apart, disjoint, walked}
 use Rattle.nxf_meaning.proofs.Declared.{declared-known, is_plain_gives, is_plain_type, is_good_use, statements-good}

@@ -1,52 +1,34 @@
 -- Files that are refused, each with its first refusal.
-use Rattle.std.proofs.Common.{◌≡◌, ℕ, Bool, true, false, List, [], ◌∷◌, ◌++◌, refl, arith}
-use Rattle.std.specs.Prelude.{codes, map, Option, None, Some, Result, Ok, Err}
+use Rattle.std.proofs.Common.{◌≡◌, [], ◌∷◌, refl}
+use Rattle.std.specs.Prelude.{codes, None, Some, Ok, Err}
 use denote.Hole.Carrier
 use Rattle.nxf_tree.specs.declared.tree.IndexName.TheVariants.{Plain, Named}
-use Rattle.nxf_tree.specs.declared.tree.SortName.{SortName}
 use Rattle.nxf_tree.specs.declared.tree.SortName.TheVariants.{Individual, User}
-use Rattle.nxf_tree.specs.declared.tree.Signature.{Signature}
-use Rattle.nxf_tree.specs.declared.tree.Regime.TheVariants.{Constant, Cumulative, Decreasing, Varying}
-use Rattle.nxf_tree.specs.declared.tree.Designation.TheVariants.{Rigid, Flexible}
-use Rattle.nxf_tree.specs.declared.tree.Locality.TheVariants.{Local, Global}
-use Rattle.nxf_tree.specs.declared.tree.Scheme.TheVariants.{T, D, B, Four, Five, CD, BoxM, C4, C, U}
-use Rattle.nxf_tree.specs.declared.tree.Mode.TheVariants.{Box, Dia}
-use Rattle.nxf_tree.specs.declared.tree.Term.{Term, Var, App}
+use Rattle.nxf_tree.specs.declared.tree.Regime.TheVariants.{Constant}
+use Rattle.nxf_tree.specs.declared.tree.Designation.TheVariants.{Rigid}
+use Rattle.nxf_tree.specs.declared.tree.Locality.TheVariants.{Local}
 use Rattle.nxf_tree.specs.declared.tree.Term.TheBlock.{hidden-the_row-Term-0}
-use Rattle.nxf_tree.specs.declared.tree.Formula.{Formula, Atom, Same, And}
+use Rattle.nxf_tree.specs.declared.tree.Formula.{Same}
 use Rattle.nxf_tree.specs.declared.tree.SpecKey.TheVariants.{Dollar, Name, Index}
-use Rattle.nxf_tree.specs.declared.tree.SpecEntry.{SpecEntry}
 use Rattle.nxf_tree.specs.declared.tree.SpecValue.{Word, Items, out-SpecValue, roll-SpecValue}
 use Rattle.nxf_tree.specs.declared.tree.SpecItem.{SpecItem, Entry, out-SpecItem, roll-SpecItem}
 use Rattle.nxf_tree.specs.declared.tree.SpecItem as item
 use Rattle.nxf_tree.specs.declared.tree.SpecItem.TheBlock.{shown-the_row-SpecItem-0}
-use Rattle.nxf_tree.specs.declared.tree.LogicSpec.{LogicSpec}
 use Rattle.nxf_tree.specs.declared.tree.Body.TheVariants.{Logic as IsLogic}
-use Rattle.nxf_tree.specs.declared.tree.Statement.{Statement}
 use Rattle.nxf_tree.specs.declared.tree.Statement.TheVariants.{Annotated}
-use Rattle.nxf_tree.specs.declared.tree.File.{File}
 use Rattle.nxf_tree.specs.declared.tree.Scope.TheVariants.{Local as Here, Global as Everywhere}
 use Rattle.nxf_tree.specs.declared.tree.Part.TheVariants.{Premise, Conjecture}
 use Rattle.nxf_base.specs.declared.status.RoleKind.TheVariants.{Unknown, TwoConjectures}
 use Rattle.nxf_base.specs.declared.status.SpecKind.TheVariants.{Absent, Two, NotModal, UnknownKey, DuplicateKey, UnknownValue, NoModalities}
 use Rattle.nxf_base.specs.declared.status.SortKind.TheVariants.{DoubleName, UnknownSort, Mismatch, FreeVariable, UnknownOverride}
-use Rattle.nxf_tree.specs.Shapes.{And2, Pair2, Quant1, Modal1, Not1, Name0}
-use Rattle.nxf_tree.specs.Names.{numeral, user_name, user_variable, world_variable, element_variable, relation_name, existence_name, actual_name, world_name}
+use Rattle.nxf_tree.specs.Shapes.{And2, Name0}
 use Rattle.nxf_tree.specs.Signature.{is_constant, is_flexible}
-use Rattle.nxf_tree.specs.SpecificationWords.{regime_named, designation_named, locality_named, system_named, axiom_named, same_scheme, scheme_order, schemes_of}
+use Rattle.nxf_tree.specs.SpecificationWords.{regime_named, designation_named, locality_named, system_named, axiom_named, same_scheme}
 use Rattle.nxf_tree.specs.Specification.{setting_of, takes_key}
-use Rattle.nxf_tree.specs.Parts.{parts_of, part_of}
-use Rattle.nxf_tree.specs.Rows.{Rows, Values}
-use Rattle.nxf_tree.specs.Structures.{KripkeStructure, ClassicalStructure, kripke_model, classical_model}
-use Rattle.nxf_tree.specs.Kripke.{sat}
-use Rattle.nxf_tree.specs.Classical.{csat}
-use Rattle.nxf_tree.specs.Conditions.{meets_frames, meets_domains, meets_terms}
-use Rattle.nxf_tree.specs.Axioms.{frame_axiom, term_axioms}
-use Rattle.nxf_tree.specs.ClassicalSignature.{classical_signature_of}
-use Rattle.nxf_tree.specs.Problem.{role_of, statement_of, declaration, problem_of}
-use Rattle.nxf_tree.specs.Profile.{Problem, Refusal, RefusedRole, RefusedSpec, RefusedSort, problem_in}
-use Rattle.nxf_tree.specs.Countermodels.{holds_in, meets_statement, IsKripkeCountermodel, IsClassicalCountermodel}
-use Rattle.nxf_meaning.proofs.CaseTrees.{setting, settings, modalities, logic, system_k, conjecture, suffixed, file_of, var, nullary, unary, binary, implies, for_all, for_some, necessarily, possibly, world_sort, here, w, v, u, x, for_world, for_next, for_third, acc, in_at, symbol, sort, first_three, axiom_statement, sort_entry, predicate, constant, index_entry, signature_in, printed}
+use Rattle.nxf_tree.specs.Parts.{parts_of}
+use Rattle.nxf_tree.specs.Problem.{role_of, statement_of}
+use Rattle.nxf_tree.specs.Profile.{RefusedRole, RefusedSpec, RefusedSort}
+use Rattle.nxf_meaning.proofs.CaseTrees.{setting, settings, modalities, logic, system_k, conjecture, suffixed, file_of, var, nullary, unary, binary, for_all, symbol, sort, sort_entry, constant, signature_in}
 
 no_logic : signature_in (file_of ([])) ≡ Err (RefusedSpec Absent)
 unfolding regime_named designation_named locality_named system_named axiom_named same_scheme setting_of takes_key out-SpecValue out-SpecItem roll-SpecValue roll-SpecItem denote.Hole.Carrier.out denote.Hole.Carrier.roll shown-the_row-SpecItem-0 denote.Hole.Carrier.shown denote.Hole.Carrier.hidden is_constant is_flexible hidden-the_row-Term-0

@@ -1,5 +1,5 @@
 -- The first form of problems: one conjecture in the modal system K, made of atoms without arguments, negations, implications and boxes.
-use Rattle.std.specs.Prelude.{ℕ, Bool, true, false, not, ◌&&◌, ◌||◌, if◌then◌else◌, List, [], ◌∷◌, ◌++◌, map, filter, codes, None}
+use Rattle.std.specs.Prelude.{ℕ, Bool, true, false, ◌&&◌, ◌||◌, if◌then◌else◌, List, [], ◌∷◌, ◌++◌, map, codes, None}
 use Rattle.nxf_tree.specs.declared.tree.Signature.{Signature}
 use Rattle.nxf_tree.specs.declared.tree.SymbolEntry.{SymbolEntry}
 use Rattle.nxf_tree.specs.declared.tree.IndexEntry.{IndexEntry}

@@ -1,6 +1,6 @@
 -- The words of a logic statement: regimes, designations and localities, and the systems and schemes of modal logic by their usual names.
 use denote.Enum.Bare.{sameb}
-use Rattle.std.specs.Prelude.{ℕ, Bool, false, ◌&&◌, ◌||◌, not, if◌then◌else◌, List, [], ◌∷◌, ◌++◌, filter, codes, Option, None, Some, is_some}
+use Rattle.std.specs.Prelude.{ℕ, Bool, false, ◌||◌, if◌then◌else◌, List, [], ◌∷◌, ◌++◌, filter, codes, Option, None, Some, is_some}
 use Rattle.std.specs.Option.{option_or, unwrap_or}
 use Rattle.std.specs.List.{list_any, list_all}
 use Rattle.nxf_tree.specs.contracts.tree.Scheme.{the_type}
