@@ -7,7 +7,7 @@ use Rattle.nxf_tree.specs.declared.tree.Setting.{Setting}
 use Rattle.nxf_tree.specs.Specification.{is_empty}
 use Rattle.nxf_tree.specs.SpecificationWords.{stands_alone, joins, one_alone, some_join, is_choice}
 
-and_true : (b : Bool) → (b && true) ≡ b
+pub and_true : (b : Bool) → (b && true) ≡ b
 and_true true = refl
 and_true false = refl
 

@@ -1,21 +1,24 @@
 //! The first fault of a logic statement.
 
-ghost use Rattle.std.specs.Prelude.{◌≡◌, Some, ◌++◌, ◌∷◌, []};
+ghost use Rattle.std.specs.Prelude.{◌≡◌, OnOk, Some, ◌++◌, ◌∷◌, []};
 ghost use Rattle.std.specs.List.{list_all};
 ghost use Rattle.std.specs.Option.{option_map};
 ghost use Rattle.nxf_base.specs.declared.status.SpecKind.TheVariants.{UnknownKey, DuplicateKey, UnknownValue};
 ghost use Rattle.nxf_tree.specs.declared.tree.SpecKey.TheVariants.{Dollar};
-ghost use Rattle.nxf_tree.specs.declared.tree.SpecItem.{SpecItem, out-SpecItem};
+ghost use Rattle.nxf_tree.specs.declared.tree.SpecItem.{SpecItem as AnyItem, out-SpecItem};
+ghost use Rattle.nxf_tree.specs.declared.tree.SpecItem.TheOpen as open_item;
 ghost use Rattle.nxf_tree.specs.declared.tree.SpecValue.{out-SpecValue};
 ghost use Rattle.nxf_tree.specs.Faults.{first_fault};
 ghost use Rattle.nxf_tree.specs.SpecificationWords as words;
 ghost use Rattle.nxf_tree.specs.Specification as spec;
 ghost use Rattle.logic_spec.specs.Judging.{Judges};
+ghost use Rattle.logic_spec.specs.Seen as known;
 
 use crate::error::SpecError;
 use crate::keys::{key_text, same_key, setting_name, setting_of};
+use crate::seen::{Seen, SeenKeys};
 use crate::words::{joins, stands_alone};
-use nxf_base::{SpecKind, Text};
+use nxf_base::{Memory, SpecKind, Text};
 use nxf_tree::{LogicSpec, Setting, SpecEntry, SpecItem, SpecKey, SpecValue};
 use std::alloc::Global;
 
@@ -66,34 +69,6 @@ fn has_no_override(mut items: &[SpecItem]) -> bool
         items = rest;
     }
     true
-}
-
-/// Whether the key has an override among the items.
-#[tactic(auto, using(nxf_tree::proofs::Opened::opened))]
-fn has_override(mut items: &[SpecItem], key: &SpecKey) -> bool
-    ensures { result ≡ spec.has_key (spec.overrides_of items.entry.now) key.now }
-{
-    while let [item, rest @ ..] = items {
-        match item {
-            SpecItem::Word(_) => {}
-            SpecItem::Entry(entry) => {
-                if same_key(&entry.key, key) {
-                    return true;
-                }
-            }
-        }
-        items = rest;
-    }
-    false
-}
-
-/// Whether the words among the items, and then the word, are a choice.
-#[tactic(auto, using(crate::proofs::Choices::choice_with))]
-fn makes_choice(setting: Setting, before: &[SpecItem], word: &Text) -> bool
-    ensures { result ≡ words.is_choice setting (spec.words_of before.now ++ word.now ∷ []) }
-{
-    (has_no_word(before) && stands_alone(setting, word))
-        || (all_join(setting, before) && joins(setting, word))
 }
 
 /// Whether the word is a choice.
@@ -206,42 +181,75 @@ fn unknown_key(alloc: Global, key: &SpecKey) -> Result<(), SpecError>
     }
 }
 
-/// The fault of an item after the items before it.
+/// The fault of an item after items of which this was seen. Where it has none, the item is seen too.
 #[tactic(auto, using(nxf_tree::proofs::Opened::opened))]
 fn judge_item(
     alloc: Global,
     setting: Setting,
-    before: &[SpecItem],
+    seen: &mut Seen,
     item: &SpecItem,
 ) -> Result<(), SpecError>
-    ensures { Judges (spec.item_fault setting before.now (out-SpecItem item.now)) result }
+    ensures judged { Judges (known.fault_after setting (known.known seen.old) (out-SpecItem item.now)) result }
+    ensures noted { OnOk result (known.known seen.new ≡ known.and_item setting (known.known seen.old) (out-SpecItem item.now)) }
 {
     match item {
-        SpecItem::Word(word) => {
-            if makes_choice(setting, before, word) {
-                Ok(())
-            } else {
-                unknown_value(alloc, setting)
-            }
+        SpecItem::Word(word) => judge_word(alloc, setting, seen, word),
+        SpecItem::Entry(entry) => judge_override(alloc, setting, seen, entry),
+    }
+}
+
+fn judge_word(
+    alloc: Global,
+    setting: Setting,
+    seen: &mut Seen,
+    word: &Text,
+) -> Result<(), SpecError>
+    ensures judged { Judges (known.fault_after setting (known.known seen.old) (open_item.SpecItem::Word word.now)) result }
+    ensures noted { OnOk result (known.known seen.new ≡ known.and_item setting (known.known seen.old) (open_item.SpecItem::Word word.now)) }
+{
+    let joins = joins(setting, word);
+    if (seen.no_word && stands_alone(setting, word)) || (seen.all_join && joins) {
+        seen.no_word = false;
+        seen.all_join = seen.all_join && joins;
+        Ok(())
+    } else {
+        unknown_value(alloc, setting)
+    }
+}
+
+fn judge_override(
+    alloc: Global,
+    setting: Setting,
+    seen: &mut Seen,
+    entry: &SpecEntry,
+) -> Result<(), SpecError>
+    ensures judged { Judges (known.fault_after setting (known.known seen.old) (open_item.Entry entry.now)) result }
+    ensures noted { OnOk result (known.known seen.new ≡ known.and_item setting (known.known seen.old) (open_item.Entry entry.now)) }
+{
+    if seen.keys.contains(&entry.key) {
+        duplicate_key(alloc, &entry.key)
+    } else if takes_key(setting, &entry.key) && takes_value(setting, &entry.value) {
+        match seen.keys.insert(alloc, &entry.key) {
+            Ok(()) => Ok(()),
+            Err(Memory) => Err(SpecError::Memory),
         }
-        SpecItem::Entry(entry) => {
-            if has_override(before, &entry.key) {
-                duplicate_key(alloc, &entry.key)
-            } else if takes_key(setting, &entry.key) && takes_value(setting, &entry.value) {
-                Ok(())
-            } else {
-                unknown_value(alloc, setting)
-            }
-        }
+    } else {
+        unknown_value(alloc, setting)
     }
 }
 
 /// The first fault of a list of items.
-fn judge_items(alloc: Global, setting: Setting, items: &[SpecItem]) -> Result<(), SpecError>
-    ensures { Judges (option_map (λ fault. fault.1) (first_fault (λ before (x : SpecItem). spec.item_fault setting before (out-SpecItem x)) 0 [] items.now)) result }
+fn judge_items(alloc: Global, setting: Setting, mut items: &[SpecItem]) -> Result<(), SpecError>
+    ensures { Judges (option_map (λ fault. fault.1) (first_fault (λ before (x : AnyItem). spec.item_fault setting before (out-SpecItem x)) 0 [] items.entry.now)) result }
 {
-    for (i, item) in items.iter().enumerate() {
-        judge_item(alloc, setting, &items[..i], item)?;
+    let mut seen = Seen {
+        no_word: true,
+        all_join: true,
+        keys: SeenKeys::new(alloc),
+    };
+    while let [item, rest @ ..] = items {
+        judge_item(alloc, setting, &mut seen, item)?;
+        items = rest;
     }
     Ok(())
 }

@@ -5,7 +5,10 @@ mod error;
 mod judge;
 mod keys;
 mod read;
+mod seen;
 mod spec;
+#[cfg(test)]
+mod tests;
 mod words;
 
 pub use error::SpecError;

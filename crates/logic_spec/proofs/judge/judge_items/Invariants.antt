@@ -1,8 +1,13 @@
-use Rattle.std.proofs.Common.{◌≡◌, [], take, drop}
-use Rattle.nxf_tree.specs.declared.tree.SpecItem.{SpecItem, out-SpecItem}
-use Rattle.nxf_tree.specs.Specification.{item_fault}
-use Rattle.logic_spec.proofs.FirstFaults.{walked}
+use Rattle.std.proofs.Common.{◌≡◌, ℕ, [], length}
+use Rattle.std.specs.Option.{option_map}
+use Rattle.nxf_base.specs.declared.status.SpecKind.{SpecKind}
+use Rattle.nxf_tree.specs.Faults.{first_fault}
+use Rattle.logic_spec.specs.Seen.{known}
+use Rattle.logic_spec.proofs.ListFaults.{judge_in, fault_from}
 use Rattle.logic_spec.proofs.judge.judge_items.Given as goal
 
-abbrev pub invariant-loop-i : goal.invariant-loop-i
-invariant-loop-i l = walked (λ before (x : SpecItem). item_fault l.setting before (out-SpecItem x)) [] l.items ≡ walked (λ before (x : SpecItem). item_fault l.setting before (out-SpecItem x)) (take l.i l.items) (drop l.i l.items)
+abbrev pub invariant-loop-items : goal.invariant-loop-items
+invariant-loop-items l = option_map (λ (fault : ℕ × SpecKind). fault.1) (first_fault (judge_in l.setting) 0 [] l.initial.items) ≡ fault_from l.setting (known l.seen) l.items
+
+abbrev pub decreases-loop-items : goal.decreases-loop-items
+decreases-loop-items l = length l.items
