@@ -31,8 +31,8 @@ all_sorted statements at entries conjectured sorted all =
 pub refused_next : (statements : List Statement) (at : ℕ) (entries : List PartEntry) (conjectured : Bool) (d : Statement) (kind : RoleKind) → IsSorted statements at entries conjectured → at < length statements → role_fault (take at statements) (get_or statements at d) ≡ Some kind → unless (first_fault role_fault 1 [] statements) (part_entries 1 statements) ≡ Err (at + 1, kind)
 refused_next statements at entries conjectured d kind sorted more fault =
     let first : first_fault role_fault 1 [] statements ≡ Some (at + 1, kind) =
-        sorted.faultless ∙ ap (first_fault role_fault (at + 1) (take at statements)) (drop-cons statements at d more)
-        ∙ ap (λ found. option_or (option_map (λ k. (at + 1, k)) found) (first_fault role_fault (suc (at + 1)) (take at statements ++ get_or statements at d ∷ []) (drop (suc at) statements))) fault in
+    sorted.faultless ∙ ap (first_fault role_fault (at + 1) (take at statements)) (drop-cons statements at d more)
+    ∙ ap (λ found. option_or (option_map (λ k. (at + 1, k)) found) (first_fault role_fault (suc (at + 1)) (take at statements ++ get_or statements at d ∷ []) (drop (suc at) statements))) fault in
     rw first refl
 
 one_more : (k : ℕ) (part : Option Part) (entries rest : List PartEntry) → entries ++ and_part k part rest ≡ (entries ++ and_part k part []) ++ rest
@@ -51,16 +51,16 @@ sorted_next statements at entries conjectured d part sorted more fault is =
     let grown : take (at + 1) statements ≡ take at statements ++ x ∷ [] = rw add-one (take-suc statements at d more) in
     record {
       faultless =
-        sorted.faultless ∙ ap (first_fault role_fault (at + 1) (take at statements)) cut
-        ∙ ap (λ found. option_or (option_map (λ k. (at + 1, k)) found) (first_fault role_fault (suc (at + 1)) (take at statements ++ x ∷ []) (drop (at + 1) statements))) fault
-        ∙ ap (λ before. first_fault role_fault (suc (at + 1)) before (drop (at + 1) statements)) (sym grown)
-        ∙ ap (λ k. first_fault role_fault k (take (at + 1) statements) (drop (at + 1) statements)) (sym (add-one (at + 1)));
+          sorted.faultless ∙ ap (first_fault role_fault (at + 1) (take at statements)) cut
+          ∙ ap (λ found. option_or (option_map (λ k. (at + 1, k)) found) (first_fault role_fault (suc (at + 1)) (take at statements ++ x ∷ []) (drop (at + 1) statements))) fault
+          ∙ ap (λ before. first_fault role_fault (suc (at + 1)) before (drop (at + 1) statements)) (sym grown)
+          ∙ ap (λ k. first_fault role_fault k (take (at + 1) statements) (drop (at + 1) statements)) (sym (add-one (at + 1)));
       entered =
-        sorted.entered ∙ ap (λ rest. entries ++ part_entries (at + 1) rest) cut
-        ∙ ap (λ p. entries ++ and_part (at + 1) p (part_entries (suc (at + 1)) (drop (at + 1) statements))) is
-        ∙ one_more (at + 1) part entries (part_entries (suc (at + 1)) (drop (at + 1) statements))
-        ∙ ap (λ k. (entries ++ and_part (at + 1) part []) ++ part_entries k (drop (at + 1) statements)) (sym (add-one (at + 1)));
+          sorted.entered ∙ ap (λ rest. entries ++ part_entries (at + 1) rest) cut
+          ∙ ap (λ p. entries ++ and_part (at + 1) p (part_entries (suc (at + 1)) (drop (at + 1) statements))) is
+          ∙ one_more (at + 1) part entries (part_entries (suc (at + 1)) (drop (at + 1) statements))
+          ∙ ap (λ k. (entries ++ and_part (at + 1) part []) ++ part_entries k (drop (at + 1) statements)) (sym (add-one (at + 1)));
       has_conjecture =
-        ap (list_any (λ s. is_conjecture (statement_part s))) grown ∙ list_any-append _ (take at statements) (x ∷ [])
-        ∙ rw (sorted.has_conjecture, is) (last_or conjectured (is_conjecture part))
+          ap (list_any (λ s. is_conjecture (statement_part s))) grown ∙ list_any-append _ (take at statements) (x ∷ [])
+          ∙ rw (sorted.has_conjecture, is) (last_or conjectured (is_conjecture part));
     }
