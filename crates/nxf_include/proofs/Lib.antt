@@ -1,0 +1,4 @@
+pub mod Asked
+pub mod Callers
+pub mod Over
+pub mod Refusing

@@ -1,0 +1,17 @@
+-- How a result stands to the defined one.
+use Rattle.std.specs.Prelude.{◌≡◌, ◌⊎◌, Option, IfSome, Result, Err}
+use Rattle.nxf_base.specs.Files.{Files}
+use Rattle.nxf_include.specs.declared.gather_error.GatherError.{GatherError}
+use Rattle.nxf_include.specs.declared.gather_error.GatherError.TheVariants.{NoFile, ReadFault, TooLong, Memory}
+
+-- the refusals of a single load
+abbrev pub IsOfLoading : GatherError → Type 0
+IsOfLoading (NoFile name) = Unit {0}
+IsOfLoading ReadFault = Unit {0}
+IsOfLoading (TooLong name) = Unit {0}
+IsOfLoading Memory = Unit {0}
+IsOfLoading _ = ⊥
+
+-- the refusal is the defined one where the files are told, or a read fault, or want of memory
+abbrev pub Refuses : {A : Type 0} → Option Files → (Files → Result A GatherError) → GatherError → Type 0
+Refuses told answer e = IfSome told (λ files. answer files ≡ Err e) ⊎ ((e ≡ ReadFault) ⊎ (e ≡ Memory))

@@ -1,0 +1,60 @@
+//! The bytes of one file.
+ghost use Rattle.std.specs.Prelude.{◌≡◌, ◌≤◌, Err, IfOk, IfErr, IfSome, Ok, MatchResult, length, map};
+ghost use Rattle.nxf_include.specs.Roots.{files_of, Keeps, SomeFaultRose, EachMissRose};
+ghost use Rattle.nxf_include.specs.Loading.{loaded};
+ghost use Rattle.nxf_include.specs.Refusals.{IsOfLoading, Refuses};
+
+use crate::gather_error::{no_file, too_long};
+use crate::{GatherError, Roots, load_first};
+use nxf_base::{Boxed, Found, Library, LoadError, Text};
+use std::alloc::Global;
+
+/// The greatest length of one file.
+const FILE_LIMIT: u64 = 16_777_216;
+
+/// The bytes of one file, at most 16,777,216. Where the libraries tell their files, the answer is theirs. Whatever they tell, a
+/// file is absent only where each library missed it, and there is a read fault only where a library failed.
+pub fn load_one(alloc: Global, roots: &mut Roots, name: &Text) -> Result<Vec<u8>, GatherError>
+    ensures bytes { let told = files_of (map ⟦<Boxed as Library>⟧.shelf roots.old.libraries.items) in
+        IfOk result (λ bytes. IfSome told (λ files. loaded files name.now ≡ Ok bytes.items)) }
+    ensures refusal { let told = files_of (map ⟦<Boxed as Library>⟧.shelf roots.old.libraries.items) in
+        IfErr result (Refuses told (λ files. loaded files name.now)) }
+    ensures limit { IfOk result (λ bytes. length bytes.items ≤ 16777216) }
+    ensures only { IfErr result IsOfLoading }
+    ensures no_file { (missing : _) → result ≡ Err (GatherError.NoFile missing)
+        → EachMissRose (map ⟦<Boxed as Library>⟧.shelf roots.old.libraries.items) (map ⟦<Boxed as Library>⟧.shelf roots.new.libraries.items) }
+    ensures read_fault { result ≡ Err GatherError.ReadFault
+        → SomeFaultRose (map ⟦<Boxed as Library>⟧.shelf roots.old.libraries.items) (map ⟦<Boxed as Library>⟧.shelf roots.new.libraries.items) }
+    ensures keeps { Keeps (map ⟦<Boxed as Library>⟧.shelf roots.old.libraries.items) (map ⟦<Boxed as Library>⟧.shelf roots.new.libraries.items) }
+{
+    load_one_from(alloc, &mut roots.libraries, name)
+}
+
+/// The same over any libraries.
+pub fn load_one_from<L: Library>(
+    alloc: Global,
+    libraries: &mut [L],
+    name: &Text,
+) -> Result<Vec<u8>, GatherError>
+    ensures bytes { let told = files_of (map L.shelf libraries.old) in
+        IfOk result (λ bytes. IfSome told (λ files. loaded files name.now ≡ Ok bytes.items)) }
+    ensures refusal { let told = files_of (map L.shelf libraries.old) in IfErr result (Refuses told (λ files. loaded files name.now)) }
+    ensures limit { IfOk result (λ bytes. length bytes.items ≤ 16777216) }
+    ensures only { IfErr result IsOfLoading }
+    ensures no_file { (missing : _) → result ≡ Err (GatherError.NoFile missing) → EachMissRose (map L.shelf libraries.old) (map L.shelf libraries.new) }
+    ensures read_fault { result ≡ Err GatherError.ReadFault → SomeFaultRose (map L.shelf libraries.old) (map L.shelf libraries.new) }
+    ensures keeps { Keeps (map L.shelf libraries.old) (map L.shelf libraries.new) }
+{
+    let mut bytes = Vec::new(alloc);
+    match load_first(libraries, name, FILE_LIMIT, &mut bytes) {
+        Ok(Found::Here) => {
+            if bytes.len() > FILE_LIMIT as usize {
+                return Err(too_long(alloc, name));
+            }
+            Ok(bytes)
+        }
+        Ok(Found::Absent) => Err(no_file(alloc, name)),
+        Err(LoadError::Fault) => Err(GatherError::ReadFault),
+        Err(LoadError::Memory) => Err(GatherError::Memory),
+    }
+}

@@ -1,0 +1,117 @@
+//! A list of libraries that the caller made, asked in order.
+ghost use Rattle.std.specs.Prelude.{◌≡◌, ◌↔◌, ℕ, ◌-◌, ◌<◌, ◌^◌, ◌++◌, [], ◌∷◌, length, map, take, slice_get, Some, OnOk, OnErr, IfErr, IsTrue, Ok, IsErrOf};
+ghost use Rattle.nxf_base.specs.Load.{Loads};
+ghost use Rattle.nxf_include.specs.Roots.{files_of, Keeps, SomeFaultRose, EachMissRose};
+
+use nxf_base::{Boxed, Found, Library, LoadError, Refused, Text};
+use std::alloc::Global;
+
+/// Libraries that the caller made, to be asked in order. Contracts see what each tells: `map ⟦<Boxed as Library>⟧.shelf roots.libraries.items`.
+#[derive(Drop)]
+pub struct Roots {
+    pub libraries: Vec<Boxed>,
+}
+
+impl Roots {
+    pub fn new(alloc: Global) -> Roots
+        ensures { map ⟦<Boxed as Library>⟧.shelf result.libraries.items ≡ [] }
+    {
+        Roots {
+            libraries: Vec::new(alloc),
+        }
+    }
+
+    /// Adds a library that is asked after the others. Where no memory is found it is handed back.
+    pub fn push(&mut self, library: Boxed) -> Result<(), Refused<Boxed>>
+        ensures ok { OnOk result (map ⟦<Boxed as Library>⟧.shelf self.new.libraries.items
+            ≡ map ⟦<Boxed as Library>⟧.shelf self.old.libraries.items ++ ⟦<Boxed as Library>⟧.shelf library ∷ []) }
+        ensures err { OnErr result (map ⟦<Boxed as Library>⟧.shelf self.new.libraries.items ≡ map ⟦<Boxed as Library>⟧.shelf self.old.libraries.items) }
+        ensures back { IfErr result (λ refused. refused.back ≡ library) }
+    {
+        match self.libraries.push(library) {
+            Ok(()) => Ok(()),
+            Err(failed) => Err(Refused { back: failed.value }),
+        }
+    }
+
+    /// Drops the last library, where there is one.
+    pub fn drop_last(&mut self) -> bool
+        ensures some { let before = map ⟦<Boxed as Library>⟧.shelf self.old.libraries.items in IsTrue result ↔ 0 < length before }
+        ensures left { let before = map ⟦<Boxed as Library>⟧.shelf self.old.libraries.items in
+            map ⟦<Boxed as Library>⟧.shelf self.new.libraries.items ≡ take (length before - 1) before }
+    {
+        self.libraries.pop().is_some()
+    }
+
+    pub fn len(&self) -> usize
+        ensures { result ≡ length (map ⟦<Boxed as Library>⟧.shelf self.now.libraries.items) }
+    {
+        self.libraries.len()
+    }
+
+    /// Asks the libraries in order: the first that has the file, or fails, decides.
+    pub fn load(&mut self, name: &Text, limit: u64, into: &mut Vec<u8>) -> Result<Found, LoadError>
+        requires { limit < 2 ^ 32 }
+        ensures loads { Loads (files_of (map ⟦<Boxed as Library>⟧.shelf self.old.libraries.items)) name.now limit result into.old.items into.new.items }
+        ensures keeps { Keeps (map ⟦<Boxed as Library>⟧.shelf self.old.libraries.items) (map ⟦<Boxed as Library>⟧.shelf self.new.libraries.items) }
+        ensures fault { IsErrOf result LoadError.Fault
+            → SomeFaultRose (map ⟦<Boxed as Library>⟧.shelf self.old.libraries.items) (map ⟦<Boxed as Library>⟧.shelf self.new.libraries.items) }
+        ensures absent { result ≡ Ok Found.Absent
+            → EachMissRose (map ⟦<Boxed as Library>⟧.shelf self.old.libraries.items) (map ⟦<Boxed as Library>⟧.shelf self.new.libraries.items) }
+    {
+        load_first(&mut self.libraries, name, limit, into)
+    }
+
+    /// How often one library has failed.
+    pub fn faults(&self, at: usize) -> u64
+        requires { at < length (map ⟦<Boxed as Library>⟧.shelf self.now.libraries.items) }
+        ensures { slice_get (map (λ s. s.faults) (map ⟦<Boxed as Library>⟧.shelf self.now.libraries.items)) at ≡ Some result }
+    {
+        faults_of(&self.libraries, at)
+    }
+
+    /// How often one library had no file.
+    pub fn misses(&self, at: usize) -> u64
+        requires { at < length (map ⟦<Boxed as Library>⟧.shelf self.now.libraries.items) }
+        ensures { slice_get (map (λ s. s.misses) (map ⟦<Boxed as Library>⟧.shelf self.now.libraries.items)) at ≡ Some result }
+    {
+        misses_of(&self.libraries, at)
+    }
+}
+
+/// The same over any libraries. A boxed one is a library, so the call above is this one at boxes.
+pub fn load_first<L: Library>(
+    libraries: &mut [L],
+    name: &Text,
+    limit: u64,
+    into: &mut Vec<u8>,
+) -> Result<Found, LoadError>
+    requires { limit < 2 ^ 32 }
+    ensures loads { Loads (files_of (map L.shelf libraries.old)) name.now limit result into.old.items into.new.items }
+    ensures keeps { Keeps (map L.shelf libraries.old) (map L.shelf libraries.new) }
+    ensures fault { IsErrOf result LoadError.Fault → SomeFaultRose (map L.shelf libraries.old) (map L.shelf libraries.new) }
+    ensures absent { result ≡ Ok Found.Absent → EachMissRose (map L.shelf libraries.old) (map L.shelf libraries.new) }
+{
+    for at in 0..libraries.len() {
+        match libraries[at].load(name, limit, into) {
+            Ok(Found::Here) => return Ok(Found::Here),
+            Ok(Found::Absent) => {}
+            Err(error) => return Err(error),
+        }
+    }
+    Ok(Found::Absent)
+}
+
+fn faults_of<L: Library>(libraries: &[L], at: usize) -> u64
+    requires { at < length libraries.now }
+    ensures { slice_get (map (λ s. s.faults) (map L.shelf libraries.now)) at ≡ Some result }
+{
+    libraries[at].faults()
+}
+
+fn misses_of<L: Library>(libraries: &[L], at: usize) -> u64
+    requires { at < length libraries.now }
+    ensures { slice_get (map (λ s. s.misses) (map L.shelf libraries.now)) at ≡ Some result }
+{
+    libraries[at].misses()
+}
