@@ -1,4 +1,4 @@
--- The grammar, a constructor for each of its lines. `Is.. n input tree rest` says that the input begins with
+-- The grammar of terms and formulas in TPTP, a constructor for each of its lines. `Is.. n input tree rest` says that the input begins with
 -- the tree, at n levels above the greatest nesting, and goes on
 -- with rest. No name has more than `most` arguments.
 use Rattle.std.specs.Prelude.{ℕ, suc, List, [], ◌∷◌, ◌≡◌, Some}
@@ -22,6 +22,7 @@ use Rattle.nxf_signs.specs.Input.{Spelling, Input}
 use Rattle.nxf_formulas.specs.Operators.{operator, mode_of}
 
 mutual
+  -- a term of TPTP: a variable, or a name with its arguments, which stand one level deeper
   pub data IsTerm (most : ℕ) : ℕ → Input → Term → Input → Type 0 where
     variable : {n : ℕ} {v : Spelling} {rest : Input} → IsTerm most n ((sign.Upper, v) ∷ rest) (term.Var v) rest
     constant : {n : ℕ} {a : Spelling} {rest : Input} → IsTerm most n ((sign.Name, a) ∷ rest) (term.App (token_text a) []) rest
@@ -32,6 +33,7 @@ mutual
     last_term : {n k : ℕ} {s : Spelling} {xs rest : Input} {t : Term} → IsTerm most n xs t ((sign.Close, s) ∷ rest) → AreTerms most n (suc k) xs (t ∷ []) rest
     more_terms : {n k : ℕ} {s : Spelling} {xs mid rest : Input} {t : Term} {ts : List Term} → IsTerm most n xs t ((sign.Comma, s) ∷ mid) → AreTerms most n k mid ts rest → AreTerms most n (suc k) xs (t ∷ ts) rest
 
+-- a sort of the typed first-order form of TPTP
 pub data IsSort : Input → SortName → Input → Type 0 where
   individual : {s : Spelling} {rest : Input} → IsSort ((sign.Individual, s) ∷ rest) sort.Individual rest
   user : {s : Spelling} {rest : Input} → IsSort ((sign.Name, s) ∷ rest) (sort.User (token_text s)) rest
@@ -52,6 +54,7 @@ pub data IsLongIndex : Input → IndexName → Input → Type 0 where
   indexed : {o h c d i : Spelling} {xs rest : Input} → IsIndex xs i ((sign.Close, c) ∷ (sign.RightBrace, d) ∷ rest) → IsLongIndex ((sign.Open, o) ∷ (sign.Hash, h) ∷ xs) (index.Named i) rest
 
 mutual
+  -- a unit: a formula that no operator joins to another without brackets
   pub data IsUnit (most : ℕ) : ℕ → Input → Formula → Input → Type 0 where
     brackets : {n : ℕ} {o c : Spelling} {xs rest : Input} {f : Formula} → IsFormula most n xs f ((sign.Close, c) ∷ rest) → IsUnit most (suc n) ((sign.Open, o) ∷ xs) f rest
     not : {n : ℕ} {s : Spelling} {xs rest : Input} {f : Formula} → IsUnit most n xs f rest → IsUnit most (suc n) ((sign.Not, s) ∷ xs) (formula.Not f) rest
@@ -80,6 +83,7 @@ mutual
     last_unit : {j : Sign} {n : ℕ} {xs rest : Input} {f : Formula} → IsUnit most n xs f rest → AreUnits most j n xs (f ∷ []) rest
     more_units : {j : Sign} {n : ℕ} {s : Spelling} {xs mid rest : Input} {f : Formula} {fs : List Formula} → IsUnit most n xs f ((j, s) ∷ mid) → AreUnits most j n mid fs rest → AreUnits most j n xs (f ∷ fs) rest
 
+  -- a formula: a unit, a chain of units with one of `&` and `|`, or two units with another operator between
   pub data IsFormula (most : ℕ) : ℕ → Input → Formula → Input → Type 0 where
     alone : {n : ℕ} {xs rest : Input} {f : Formula} → IsUnit most n xs f rest → IsFormula most n xs f rest
     and : {n : ℕ} {s : Spelling} {xs mid rest : Input} {f : Formula} {fs : List Formula} → IsUnit most n xs f ((sign.And, s) ∷ mid) → AreUnits most sign.And n mid fs rest → IsFormula most n xs (formula.And (f ∷ fs)) rest

@@ -7,6 +7,7 @@ use Rattle.nxf_tree.specs.declared.tree.Op.TheVariants as op
 use Rattle.nxf_tree.specs.declared.tree.Mode.{Mode}
 use Rattle.nxf_tree.specs.declared.tree.Mode.TheVariants as mode
 
+-- the operators that do not chain
 abbrev pub operator : Sign → Option Op
 operator sign.Implies = Some op.Implies
 operator sign.ImpliedBy = Some op.ImpliedBy

@@ -1,4 +1,4 @@
-//! Recursive descent.
+//! Recursive descent. Each function goes on with what it read, and its depth is bounded by the levels that are left.
 
 ghost use Rattle.std.specs.Prelude.{[], ◌≡◌, ℕ};
 ghost use Rattle.nxf_signs.specs.Input as input;
@@ -175,6 +175,7 @@ fn units(
 
 // ---- units
 
+/// A sort: `$i` or a name.
 #[tactic(auto, unfolding(crate::specs::Parse::sort_name))]
 pub fn sort_name(alloc: Global, cursor: &mut Cursor<'_>) -> Result<SortName, GrammarError>
     ensures { Gives (spec.sort_name cursor.old) result cursor.new }
@@ -202,6 +203,7 @@ fn bound_sort(alloc: Global, cursor: &mut Cursor<'_>) -> Result<SortName, Gramma
     }
 }
 
+/// The text of an index or a label: a name or an integer.
 #[tactic(auto, unfolding(crate::specs::Parse::index_text))]
 pub fn index_text(alloc: Global, cursor: &mut Cursor<'_>) -> Result<Text, GrammarError>
     ensures { Gives (spec.index_text cursor.old) result cursor.new }
@@ -213,6 +215,7 @@ pub fn index_text(alloc: Global, cursor: &mut Cursor<'_>) -> Result<Text, Gramma
     }
 }
 
+/// What follows the word of a modality in braces: an index in brackets or none, and the brace.
 #[tactic(auto, unfolding(crate::specs::Parse::long_index))]
 pub fn long_index(alloc: Global, cursor: &mut Cursor<'_>) -> Result<IndexName, GrammarError>
     ensures { Gives (spec.long_index cursor.old) result cursor.new }

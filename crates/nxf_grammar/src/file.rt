@@ -1,4 +1,4 @@
-//! Files.
+//! Cuts the tokens into statement parts, and reads a statement from each.
 
 ghost use Rattle.std.specs.Prelude.{[], ◌≡◌, ◌≢◌, ◌<◌, ◌≤◌, ◌^◌, ◌-◌, ◌+◌, ◌*◌, ℕ, Bool, List, length, All, Ok, Err, IfOk, IfErr};
 ghost use Rattle.tptp_lex.specs.declared.token.Token.{Token};

@@ -1,4 +1,5 @@
-//! Reads a file of statements from its tokens.
+//! Reads a file from its tokens: problems of modal logic, classical problems, and finite interpretations, in the
+//! syntax of TPTP.
 #![tactic(auto)]
 
 mod file;

@@ -11,7 +11,7 @@ use nxf_base::Text;
 use std::alloc::Global;
 use std::marker::Model;
 
-/// The tokens that are left. It copies none.
+/// The tokens that are left to read. It holds their text and copies none of it.
 #[derive(Drop)]
 pub struct Cursor<'a> {
     profile: Profile,
@@ -32,6 +32,7 @@ impl<'a> Model for Cursor<'a> {
 }
 
 impl<'a> Cursor<'a> {
+    /// All the tokens of a text, in the profile.
     pub fn new(profile: Profile, bytes: &'a [u8], tokens: &'a [Token]) -> Cursor<'a>
         requires { All (IsSpan (length bytes.now)) tokens.now }
         ensures { result ≡ spec.input_of profile bytes.now tokens.now }
@@ -43,6 +44,7 @@ impl<'a> Cursor<'a> {
         }
     }
 
+    /// The sign of the next token, or `End`.
     pub fn peek(&self) -> Sign
         ensures { result ≡ spec.kind self.now }
     {
@@ -52,7 +54,7 @@ impl<'a> Cursor<'a> {
         }
     }
 
-    /// The sign after the next.
+    /// The sign of the token after the next, or `End`.
     pub fn second(&self) -> Sign
         ensures { result ≡ spec.kind (spec.next self.now) }
     {
@@ -62,6 +64,7 @@ impl<'a> Cursor<'a> {
         }
     }
 
+    /// The sign of the token after the second, or `End`.
     pub fn third(&self) -> Sign
         ensures { result ≡ spec.kind (spec.next (spec.next self.now)) }
     {
@@ -71,6 +74,7 @@ impl<'a> Cursor<'a> {
         }
     }
 
+    /// Goes on by one token, if there is one.
     pub fn step(&mut self)
         ensures { self.new ≡ spec.next self.old }
     {
@@ -79,6 +83,7 @@ impl<'a> Cursor<'a> {
         }
     }
 
+    /// The bytes of the next token, and none at the end.
     pub fn spelling(&self) -> &[u8]
         ensures { result.now ≡ spec.text self.now }
     {
@@ -88,12 +93,14 @@ impl<'a> Cursor<'a> {
         }
     }
 
+    /// How many tokens are left.
     pub fn len(&self) -> usize
         ensures { result ≡ length self.now }
     {
         self.tokens.len()
     }
 
+    /// Takes the next token as it is spelled.
     pub fn take_text(&mut self, alloc: Global) -> Result<Text, GrammarError>
         ensures { Gives (spec.take_text self.old) result self.new }
     {
@@ -102,6 +109,7 @@ impl<'a> Cursor<'a> {
         Ok(text)
     }
 
+    /// Takes the text of the next token, which is a name or an integer.
     pub fn take_name(&mut self, alloc: Global) -> Result<Text, GrammarError>
         ensures { Gives (spec.take_name self.old) result self.new }
     {
@@ -110,6 +118,7 @@ impl<'a> Cursor<'a> {
         Ok(text)
     }
 
+    /// Whether the next token has this sign.
     #[tactic(auto, unfolding(crate::specs::Input::sees))]
     pub fn sees(&self, sign: Sign) -> bool
         ensures { result ≡ spec.sees sign self.now }
@@ -117,6 +126,7 @@ impl<'a> Cursor<'a> {
         same_sign(self.peek(), sign)
     }
 
+    /// Takes the next token if it has this sign, and says whether it did.
     #[tactic(auto, unfolding(crate::specs::Input::sees, crate::specs::Input::after))]
     pub fn eat(&mut self, sign: Sign) -> bool
         ensures value { result ≡ spec.sees sign self.old }
@@ -129,6 +139,7 @@ impl<'a> Cursor<'a> {
         found
     }
 
+    /// Takes the next token, which has to have this sign.
     #[tactic(auto, unfolding(crate::specs::Input::expect, crate::specs::Input::sees))]
     pub fn expect(&mut self, sign: Sign) -> Result<(), GrammarError>
         ensures { Gives (spec.expect sign self.old) result self.new }

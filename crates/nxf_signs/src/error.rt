@@ -3,11 +3,12 @@ ghost use Rattle.std.specs.Prelude.{◌≡◌, [], ◌∷◌, ◌++◌, OnOk, If
 use nxf_base::{List, Memory};
 use std::alloc::AllocError;
 
-/// Why there is no tree.
+/// Why tokens give no file.
 #[derive(Debug, Drop)]
 pub enum GrammarError {
-    /// No rule reads the statement of this number.
+    /// No rule reads the statement with this number, counted from 1; it is the first such statement.
     Syntax(u32),
+    /// There was no memory for the trees.
     Memory,
 }
 

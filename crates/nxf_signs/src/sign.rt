@@ -6,14 +6,21 @@ ghost use Rattle.nxf_signs.specs.declared.sign.Sign.TheVariants as sign;
 
 use tptp_lex::Kind;
 
-/// A profile is a choice of signs: what only rules outside it use is no sign of the grammar there.
+/// The rules that a file may use. A profile is a choice of signs: what only rules outside it use is no
+/// sign of the grammar there.
 #[derive(Clone, Copy, Debug, PartialEq, Eq)]
 pub enum Profile {
+    /// Problems of modal logic: all rules but `$distinct`, nesting up to 1,000, and names with up to
+    /// 1,000 arguments.
     Problem,
+    /// Classical problems: no include, logic statement or modality, nesting up to 4,000, and names with
+    /// up to 1,001 arguments.
     Classical,
+    /// Finite interpretations: as classical problems, with `$distinct` besides, but nesting up to 1,000.
     Interpretation,
 }
 
+/// What a token is to the grammar: `End` where there is none, and `Other` where no rule uses it.
 #[derive(Clone, Copy, Debug, PartialEq, Eq)]
 pub enum Sign {
     End,
@@ -176,6 +183,7 @@ fn allowed(profile: Profile, sign: Sign) -> Sign
     }
 }
 
+/// What a token of this kind and spelling is in the profile.
 #[tactic(auto, unfolding(crate::specs::Signs::sign_of))]
 pub fn sign_of(profile: Profile, kind: Kind, spelling: &[u8]) -> Sign
     ensures { result ≡ spec.sign_of profile kind spelling.now }
@@ -191,6 +199,7 @@ pub fn sign_of(profile: Profile, kind: Kind, spelling: &[u8]) -> Sign
     }
 }
 
+/// Whether two signs are the same.
 pub fn same_sign(a: Sign, b: Sign) -> bool
     ensures value { result ≡ spec.same_sign a b }
     ensures same { result ≡ true → a ≡ b }

@@ -17,6 +17,7 @@ use Rattle.nxf_tree.specs.declared.tree.SpecEntry.{SpecEntry}
 use Rattle.nxf_tree.specs.declared.tree.LogicSpec.{LogicSpec}
 use Rattle.nxf_formulas.specs.Grammar.{IsIndex, IsLongIndex}
 
+-- what a setting or an override is for
 pub data IsKey : Input → SpecKey → Input → Type 0 where
   dollar : {j : Sign} {a : Spelling} {rest : Input} → is_dollar j ≡ true → IsKey ((j, a) ∷ rest) (key.Dollar a) rest
   name : {a : Spelling} {rest : Input} → IsKey ((sign.Name, a) ∷ rest) (key.Name (token_text a)) rest
@@ -29,6 +30,7 @@ abbrev pub entry_of : SpecKey → SpecValue → SpecEntry
 entry_of k v = record { key = k; value = v }
 
 mutual
+  -- the value of an entry: a word, or a list of words and entries
   pub data IsValue : ℕ → Input → SpecValue → Input → Type 0 where
     word : {n : ℕ} {j : Sign} {a : Spelling} {rest : Input} → is_dollar j ≡ true → IsValue n ((j, a) ∷ rest) (value.Word a) rest
     none : {n : ℕ} {a b : Spelling} {rest : Input} → IsValue n ((sign.LeftBracket, a) ∷ (sign.RightBracket, b) ∷ rest) (value.Items []) rest
@@ -44,6 +46,7 @@ mutual
     word_item : {n : ℕ} {j : Sign} {a : Spelling} {rest : Input} → is_dollar j ≡ true → IsItem n ((j, a) ∷ rest) (item.Word a) rest
     entry_item : {n : ℕ} {xs rest : Input} {e : SpecEntry} → IsEntry n xs e rest → IsItem (suc n) xs (item.Entry e) rest
 
+  -- an entry: a key, `==` and its value
   pub data IsEntry : ℕ → Input → SpecEntry → Input → Type 0 where
     entry : {n : ℕ} {e : Spelling} {xs mid rest : Input} {k : SpecKey} {v : SpecValue} → IsKey xs k ((sign.Is, e) ∷ mid) → IsValue n mid v rest → IsEntry n xs (entry_of k v) rest
 
@@ -55,6 +58,7 @@ pub data AreEntries : ℕ → Input → List SpecEntry → Input → Type 0 wher
 abbrev pub logic_of : Spelling → List SpecEntry → LogicSpec
 logic_of a es = record { logic = a; entries = es }
 
+-- a logic specification: the name of a logic, `==` and its entries in square brackets
 pub data IsLogic : ℕ → Input → LogicSpec → Input → Type 0 where
   no_entries : {n : ℕ} {j : Sign} {a s b c : Spelling} {rest : Input} → is_dollar j ≡ true → IsLogic n ((j, a) ∷ (sign.Is, s) ∷ (sign.LeftBracket, b) ∷ (sign.RightBracket, c) ∷ rest) (logic_of a []) rest
   entries : {n : ℕ} {j : Sign} {a s b : Spelling} {xs rest : Input} {es : List SpecEntry} → is_dollar j ≡ true → AreEntries n xs es rest → IsLogic n ((j, a) ∷ (sign.Is, s) ∷ (sign.LeftBracket, b) ∷ xs) (logic_of a es) rest

@@ -22,15 +22,19 @@ use Rattle.nxf_statements.specs.Typings.{IsTyping}
 use Rattle.nxf_statements.specs.Logic.{IsLogic}
 use Rattle.nxf_statements.specs.Annotations.{IsAnnotation}
 
+-- a word, which is never quoted
 pub data IsWord : Input → Spelling → Input → Type 0 where
   word : {a : Spelling} {rest : Input} → is_word a ≡ true → IsWord ((sign.Name, a) ∷ rest) a rest
 
+-- a name: a word or a quoted atom, by its text
 pub data IsName : Input → Spelling → Input → Type 0 where
   name : {a : Spelling} {rest : Input} → IsName ((sign.Name, a) ∷ rest) (token_text a) rest
 
+-- the role of a word and its suffix, as the trees hold it
 abbrev pub role_of : Spelling → Option Spelling → Role
 role_of a b = record { word = a; suffix = b }
 
+-- a role of TPTP: a word, or a word with a suffix behind `-`
 pub data IsRole : Input → Role → Input → Type 0 where
   of_word : {a : Spelling} {xs rest : Input} → IsWord xs a rest → IsRole xs (role_of a None) rest
   with_suffix : {a b m : Spelling} {xs mid rest : Input} → IsWord xs a ((sign.Minus, m) ∷ mid) → IsWord mid b rest → IsRole xs (role_of a (Some b)) rest
@@ -39,6 +43,7 @@ pub data IsRole : Input → Role → Input → Type 0 where
 abbrev pub body_kind : Spelling → BodyKind
 body_kind w = if bytes_eq w (codes "type") then kinds.Typing else (if bytes_eq w (codes "logic") then kinds.Logic else kinds.Formula)
 
+-- the body of a statement, of the kind that its role asks for
 pub data IsBody (most : ℕ) : ℕ → BodyKind → Input → Body → Input → Type 0 where
   typing : {n : ℕ} {xs rest : Input} {t : Typing} → IsTyping most n xs t rest → IsBody most n kinds.Typing xs (body.Typing t) rest
   logic : {n : ℕ} {xs rest : Input} {l : LogicSpec} → IsLogic n xs l rest → IsBody most n kinds.Logic xs (body.Logic l) rest
@@ -53,7 +58,7 @@ pub data AreLabels : Input → List Spelling → Input → Type 0 where
 abbrev pub keyword_of : Bool → Spelling → Keyword
 keyword_of with_includes w = if bytes_eq w (codes "tff") then keyword.Tff else (if bytes_eq w (codes "include") then (if with_includes then keyword.Include else keyword.Other) else keyword.Other)
 
--- a label is a name or an integer, as an index is
+-- An annotated statement or an include of TPTP, through its full stop. A label is a name or an integer, as an index is.
 pub data IsStatement (with_includes : Bool) (most n : ℕ) : Input → Statement → Input → Type 0 where
   annotated : {a o c d e f label : Spelling} {xs ys zs rest : Input} {r : Role} {b : Body} → keyword_of with_includes a ≡ keyword.Tff
       → IsIndex xs label ((sign.Comma, c) ∷ ys) → IsRole ys r ((sign.Comma, d) ∷ zs) → IsBody most n (body_kind r.word) zs b ((sign.Close, e) ∷ (sign.Stop, f) ∷ rest)

@@ -8,6 +8,7 @@ use Rattle.nxf_tree.specs.declared.tree.Typing.{Typing}
 use Rattle.nxf_tree.specs.declared.tree.Typing.TheVariants as typing
 use Rattle.nxf_formulas.specs.Grammar.{IsSort}
 
+-- what a symbol gives: a sort, or `$o` for a predicate
 pub data IsResult : Input → Option SortName → Input → Type 0 where
   of_sort : {xs rest : Input} {s : SortName} → IsSort xs s rest → IsResult xs (Some s) rest
   truth : {v : Spelling} {rest : Input} → IsResult ((sign.Truth, v) ∷ rest) None rest
@@ -24,6 +25,7 @@ pub data IsType (most : ℕ) (name : Spelling) : ℕ → Input → Typing → In
   of_sorts : {n : ℕ} {o g : Spelling} {xs mid rest : Input} {ss : List SortName} {r : Option SortName} → AreSorts most xs ss ((sign.Greater, g) ∷ mid) → IsResult mid r rest → IsType most name (suc n) ((sign.Open, o) ∷ xs) (typing.Symbol name ss r) rest
   brackets : {n : ℕ} {o c : Spelling} {xs rest : Input} {t : Typing} → IsType most name n xs t ((sign.Close, c) ∷ rest) → IsType most name (suc n) ((sign.Open, o) ∷ xs) t rest
 
+-- a typing of TPTP: that `$i` or a name is a sort, or that a name has a type
 pub data IsTyping (most : ℕ) : ℕ → Input → Typing → Input → Type 0 where
   individual : {n : ℕ} {i c t : Spelling} {rest : Input} → IsTyping most n ((sign.Individual, i) ∷ (sign.Colon, c) ∷ (sign.SortType, t) ∷ rest) typing.Individual rest
   sort : {n : ℕ} {a c t : Spelling} {rest : Input} → IsTyping most n ((sign.Name, a) ∷ (sign.Colon, c) ∷ (sign.SortType, t) ∷ rest) (typing.Sort (token_text a)) rest

@@ -1,4 +1,4 @@
-//! Reads a file of statements.
+//! Reads statements: typings, logic specifications, annotations, includes and formulas with their roles.
 #![tactic(auto)]
 
 mod annotations;

@@ -19,7 +19,7 @@ use nxf_tree::{Body, Role, Statement};
 use nxf_signs::{Cursor, GrammarError, Sign, is_word, push};
 use std::alloc::Global;
 
-/// What a body is.
+/// What the body of a statement is, by the first word of its role.
 #[derive(Clone, Copy, Debug, PartialEq, Eq)]
 pub enum BodyKind {
     Typing,
@@ -27,7 +27,7 @@ pub enum BodyKind {
     Formula,
 }
 
-/// What a statement begins with.
+/// The word that a statement begins with; `Other` begins none.
 #[derive(Clone, Copy, Debug, PartialEq, Eq)]
 pub enum Keyword {
     Tff,
