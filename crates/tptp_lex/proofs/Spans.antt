@@ -1,15 +1,19 @@
 -- Where the tokens of a text stand.
-use Rattle.std.proofs.Common.{◌≡◌, ℕ, true, zero, suc, ◌+◌, ◌≤◌, ◌<◌, Some, List, [], ◌∷◌, ◌++◌, length, refl, sym, ap, subst, arith, ⊎_elim, inl, inr, length-append}
+use Rattle.std.proofs.Common.{◌≡◌, ℕ, true, zero, suc, ◌+◌, ◌-◌, ◌≤◌, ◌<◌, Some, List, [], ◌∷◌, ◌++◌, length, take, drop, refl, sym, ap, subst, ◌∙◌, arith, ⊎_elim, inl, inr, length-append}
 use Rattle.std.specs.Prelude.{slice_get, nat_le}
 use Rattle.std.specs.List.{All, AllByRecursion, list_all}
 use Rattle.std.proofs.lemmas.Bool.{leb-true}
 use Rattle.std.proofs.lemmas.List.Elements.{All-from_recursion}
 use Rattle.tptp_lex.specs.declared.token.Token.{Token}
+use Rattle.std.proofs.lemmas.List.{drop-drop}
+use Rattle.tptp_lex.specs.declared.token.Kind.{Kind}
 use Rattle.tptp_lex.specs.declared.token.Kind.TheVariants as kind
 use Rattle.tptp_lex.specs.declared.token.Lexeme.TheVariants as lexeme
 use Rattle.tptp_lex.specs.declared.token.Lexeme.{Lexeme}
 use Rattle.tptp_lex.specs.Bytes.{punctuation}
 use Rattle.tptp_lex.specs.Shapes.{is_line_comment, is_block_comment, is_digits, IsOneOf, IsLexeme}
+use Rattle.std.proofs.Math.Seq.{drop-append_seam, take-append_seam}
+use Rattle.tptp_lex.specs.Texts.{spelling_of, IsSpelled}
 use Rattle.tptp_lex.specs.Lexing.{Piece, Begins, token_of, tokens_from, Lexes, IsTokenOf, IsSpan, AreSpans}
 use Rattle.tptp_lex.proofs.Punctuation.{one_passes}
 
@@ -77,3 +81,32 @@ found_in P (u ∷ ts) (suc at) t all found = found_in P ts at t all.1 found
 
 pub token_within : (text : List ℕ) (token : Token) → IsTokenOf text token → IsSpan (length text) token
 token_within text token h = found_in (IsSpan (length text)) h.0 h.1 token (all_within 0 (length text) h.0 (in_order text h.0 h.2)) h.3
+
+-- ---- spellings
+
+spelled_more : (P : Token → Type 0) (k : Lexeme) (start end : ℕ) (ts : List Token) → ((kind : Kind) → k ≡ lexeme.Token kind → P (record { kind = kind; start = start; end = end })) → AllByRecursion P ts → AllByRecursion P (token_of k start end ++ ts)
+spelled_more P lexeme.Blank start end ts one others = others
+spelled_more P lexeme.Comment start end ts one others = others
+spelled_more P (lexeme.Token kind) start end ts one others = (one kind refl, others)
+
+taken_here : (whole spelling after : List ℕ) (at : ℕ) → drop at whole ≡ spelling ++ after → take (at + length spelling - at) (drop at whole) ≡ spelling
+taken_here whole spelling after at here =
+    let len : at + length spelling - at ≡ length spelling = omega arith in
+    rw (len, here) (take-append_seam spelling after)
+
+dropped_here : (whole spelling after : List ℕ) (at : ℕ) → drop at whole ≡ spelling ++ after → drop (at + length spelling) whole ≡ after
+dropped_here whole spelling after at here = sym (drop-drop (length spelling) at whole) ∙ ap (drop (length spelling)) here ∙ drop-append_seam spelling after
+
+spelled_from : (whole text : List ℕ) (ps : List Piece) (at : ℕ) → drop at whole ≡ text → Begins text ps [] → AllByRecursion (IsSpelled whole) (tokens_from at ps)
+spelled_from whole text [] at here h = tt
+spelled_from whole text (p ∷ ps) at here h =
+    let split = here ∙ h.1.parts in
+    spelled_more (IsSpelled whole) p.kind at (at + length p.spelling) (tokens_from (at + length p.spelling) ps)
+    (λ kind e. (h.0, subst (λ (s : List ℕ). IsLexeme (lexeme.Token kind) s h.0) (sym (taken_here whole p.spelling h.0 at split)) (subst (λ (k : Lexeme). IsLexeme k p.spelling h.0) e h.1.is)))
+    (spelled_from whole h.0 ps (at + length p.spelling) (dropped_here whole p.spelling h.0 at split) h.2)
+
+pub all_spelled : (text : List ℕ) (ts : List Token) → Lexes text ts → AllByRecursion (IsSpelled text) ts
+all_spelled text ts h = subst (AllByRecursion (IsSpelled text)) (sym h.2) (spelled_from text text h.0 0 refl h.1)
+
+pub spelled : (text : List ℕ) (ts : List Token) → Lexes text ts → All (IsSpelled text) ts
+spelled text ts h = All-from_recursion (IsSpelled text) ts (all_spelled text ts h)

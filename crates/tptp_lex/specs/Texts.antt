@@ -3,10 +3,16 @@ use Rattle.std.specs.Prelude.{◌≡◌, ℕ, ◌-◌, Bool, true, false, ◌||�
 use Rattle.tptp_lex.specs.declared.token.Kind.{Kind}
 use Rattle.tptp_lex.specs.declared.token.Kind.TheVariants as kind
 use Rattle.tptp_lex.specs.declared.token.Token.{Token}
+use Rattle.tptp_lex.specs.declared.token.Lexeme.TheVariants as lexeme
+use Rattle.tptp_lex.specs.Shapes.{IsLexeme}
 
 -- the bytes of a token, as they stand
 abbrev pub spelling_of : List ℕ → Token → List ℕ
 spelling_of text token = take (token.end - token.start) (drop token.start text)
+
+-- the token's bytes are a lexeme of its kind
+abbrev pub IsSpelled : List ℕ → Token → Type 0
+IsSpelled text token = (after : List ℕ) × IsLexeme (lexeme.Token token.kind) (spelling_of text token) after
 
 -- what stands behind a quote, up to the quote that ends it, without the backslash of each escape; the flag says that a backslash came before
 abbrev pub unescaped : ℕ → Bool → List ℕ → List ℕ

@@ -2,6 +2,7 @@ ghost use Rattle.std.specs.Prelude.{◌≡◌, ◌≢◌, [], ◌<◌, ◌≤◌
 ghost use Rattle.tptp_lex.specs.declared.token.Token.{Token};
 ghost use Rattle.tptp_lex.specs.Lexing.{Piece, Begins, Lexes, IsSpan, AreSpans, token_of, IsBadPlace, BeginsClosed};
 ghost use Rattle.tptp_lex.specs.LexErrors.{Explains};
+ghost use Rattle.tptp_lex.specs.Texts.{IsSpelled};
 
 use crate::front::front;
 use crate::token::{Lexeme, Token};
@@ -40,7 +41,8 @@ impl Model for Tokens {
 impl Tokens {
     /// The tokens as a slice.
     pub fn as_slice(&self) -> &[Token]
-        ensures { result.now ≡ self.now }
+        ensures items { result.now ≡ self.now }
+        ensures few { length result.now < 2 ^ 32 }
     {
         self.tokens.as_slice()
     }
@@ -126,6 +128,11 @@ pub fn lex(alloc: Global, bytes: &[u8]) -> Result<Tokens, LexError>
 pub fn spans_in_order()
     ensures order { (text : List ℕ) (ts : List Token) → Lexes text ts → AreSpans 0 (length text) ts }
     ensures within { (text : List ℕ) (ts : List Token) → Lexes text ts → All (IsSpan (length text)) ts }
+{}
+
+/// The bytes of each token of a text are a lexeme of the token's kind.
+pub fn tokens_are_lexemes()
+    ensures { (text : List ℕ) (ts : List Token) → Lexes text ts → All (IsSpelled text) ts }
 {}
 
 /// A text has no more tokens than bytes.

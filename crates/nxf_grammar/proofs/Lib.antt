@@ -1,0 +1,2 @@
+pub mod ExactFiles
+pub mod FineFiles

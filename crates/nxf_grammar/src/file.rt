@@ -1,0 +1,201 @@
+//! Cuts the tokens into statement parts, and reads a statement from each.
+
+ghost use Rattle.std.specs.Prelude.{[], ◌≡◌, ◌≢◌, ◌<◌, ◌≤◌, ◌^◌, ◌-◌, ◌+◌, ◌*◌, ℕ, Bool, List, length, All, Ok, Err, IfOk, IfErr};
+ghost use Rattle.tptp_lex.specs.declared.token.Token.{Token};
+ghost use Rattle.tptp_lex.specs.Lexing.{Lexes, IsSpan};
+ghost use Rattle.std.specs.List.{AllByRecursion};
+ghost use Rattle.nxf_signs.specs.Input as input;
+ghost use Rattle.nxf_signs.specs.declared.sign.Profile.{Profile};
+ghost use Rattle.nxf_tree.specs.declared.tree.File.{File};
+ghost use Rattle.nxf_tree.specs.declared.tree.Statement.{Statement};
+ghost use Rattle.nxf_statements.specs.Statements.{IsStatement};
+ghost use Rattle.nxf_statements.specs.ReadStatements.{read_statement};
+ghost use Rattle.nxf_grammar.specs.Files as spec;
+ghost use Rattle.nxf_grammar.specs.Files.{AreRead, Explains};
+ghost use Rattle.nxf_grammar.specs.Profiles as profiles;
+ghost use Rattle.nxf_tree.specs.Depth.{file_depth};
+ghost use Rattle.nxf_tree.specs.Weight.{file_weight};
+ghost use Rattle.nxf_statements.specs.Regular.{IsRegular};
+ghost use Rattle.nxf_grammar.specs.Spells.{parts_of, TokensSpell, IsFirstFault, Spells, IsCause};
+
+use nxf_base::List;
+use nxf_signs::{Cursor, GrammarError, Profile, Sign, push};
+use nxf_statements::statement;
+use nxf_tree::{File, Statement};
+use std::alloc::Global;
+use tptp_lex::{Token, Tokens, spans_in_order};
+
+/// How many tokens the first part has.
+fn first_len(profile: Profile, bytes: &[u8], tokens: &[Token]) -> usize
+    requires { All (IsSpan (length bytes.now)) tokens.now }
+    ensures value { result ≡ spec.first_len (input.input_of profile bytes.now tokens.now) }
+    ensures within { result ≤ length tokens.now }
+    ensures some { 0 < length tokens.now → 0 < result }
+{
+    let mut cursor = Cursor::new(profile, bytes, tokens);
+    let mut len = 0;
+    while cursor.len() > 0 {
+        len += 1;
+        if cursor.sees(Sign::Stop) {
+            return len;
+        }
+        cursor.step();
+    }
+    len
+}
+
+/// The statement that a part spells, all of it.
+fn part(
+    alloc: Global,
+    bytes: &[u8],
+    tokens: &[Token],
+    profile: Profile,
+    number: u32,
+    with_includes: bool,
+    levels: usize,
+    most: usize,
+) -> Result<Statement, GrammarError>
+    requires { All (IsSpan (length bytes.now)) tokens.now }
+    ensures { spec.AnswersPart (spec.whole (read_statement with_includes most levels (input.input_of profile bytes.now tokens.now))) number result }
+{
+    let mut cursor = Cursor::new(profile, bytes, tokens);
+    match statement(alloc, &mut cursor, with_includes, levels, most) {
+        Ok(found) if cursor.len() == 0 => Ok(found),
+        Ok(_) => Err(GrammarError::Syntax(number)),
+        Err(GrammarError::Syntax(_)) => Err(GrammarError::Syntax(number)),
+        Err(GrammarError::Memory) => Err(GrammarError::Memory),
+    }
+}
+
+fn parts(
+    alloc: Global,
+    bytes: &[u8],
+    tokens: &[Token],
+    profile: Profile,
+    with_includes: bool,
+    levels: usize,
+    most: usize,
+) -> Result<List<Statement>, GrammarError>
+    requires within { All (IsSpan (length bytes.now)) tokens.now }
+    requires few { length tokens.now < 2 ^ 32 }
+    ensures { spec.Answers (spec.read_parts (read_statement with_includes most levels) (spec.statement_parts (input.input_of profile bytes.now tokens.now)) 1 []) result }
+{
+    let mut found = List::new(alloc);
+    let mut rest = tokens;
+    let mut number: u32 = 0;
+    while rest.len() > 0 {
+        number += 1;
+        let (first, others) = rest.split_at(first_len(profile, bytes, rest));
+        let statement = match part(
+            alloc,
+            bytes,
+            first,
+            profile,
+            number,
+            with_includes,
+            levels,
+            most,
+        ) {
+            Ok(statement) => statement,
+            Err(e) => return Err(e),
+        };
+        push(&mut found, statement)?;
+        rest = others;
+    }
+    Ok(found)
+}
+
+#[tactic(auto, unfolding(crate::specs::Profiles::most_arguments))]
+fn most_arguments(profile: Profile) -> usize
+    ensures { result ≡ profiles.most_arguments profile }
+{
+    match profile {
+        Profile::Problem => 1000,
+        _ => 1001,
+    }
+}
+
+#[tactic(auto, unfolding(crate::specs::Profiles::greatest_nesting))]
+fn levels_of(profile: Profile) -> usize
+    ensures { result ≡ profiles.levels_of profile }
+{
+    match profile {
+        Profile::Classical => 3999,
+        _ => 999,
+    }
+}
+
+fn has_includes(profile: Profile) -> bool
+    ensures { result ≡ profiles.has_includes profile }
+{
+    match profile {
+        Profile::Problem => true,
+        _ => false,
+    }
+}
+
+/// The file that the tokens spell within the limits, or the number of the first statement that no rule reads.
+fn read_within(
+    alloc: Global,
+    bytes: &[u8],
+    tokens: &Tokens,
+    profile: Profile,
+    with_includes: bool,
+    levels: usize,
+    most: usize,
+) -> Result<File, GrammarError>
+    requires lexed { Lexes bytes.now tokens.now }
+    ensures read { IfOk result (λ f. AreRead with_includes most levels (parts_of profile bytes.now tokens.now) f.statements) }
+    ensures refused { IfErr result (λ e. Explains with_includes most levels (parts_of profile bytes.now tokens.now) e) }
+{
+    spans_in_order();
+    match parts(
+        alloc,
+        bytes,
+        tokens.as_slice(),
+        profile,
+        with_includes,
+        levels,
+        most,
+    ) {
+        Ok(statements) => Ok(File { statements }),
+        Err(e) => Err(e),
+    }
+}
+
+/// The one file that the tokens of the bytes spell in the profile. Where they spell none, it answers
+/// `Syntax` with the number of the first statement that no rule reads, counted from 1. `Memory`
+/// comes only for want of memory.
+pub fn read_file(
+    alloc: Global,
+    bytes: &[u8],
+    tokens: &Tokens,
+    profile: Profile,
+) -> Result<File, GrammarError>
+    requires { Lexes bytes.now tokens.now }
+    ensures read { IfOk result (λ f. TokensSpell profile bytes.now tokens.now f) }
+    ensures refused { IfErr result (λ e. IsCause profile bytes.now tokens.now e) }
+    ensures depth { IfOk result (λ f. file_depth f ≤ 2 * profiles.greatest_nesting profile + 1) }
+    ensures weight { IfOk result (λ f. file_weight f ≤ length tokens.now) }
+    ensures regular { IfOk result (λ f. IsRegular profiles.any_allowed f) }
+    ensures allowed { IfOk result (λ f. IsRegular (profiles.allowed_in profile) f) }
+    ensures read_exactly { (f : File) → Spells profile bytes.now f → result ≢ Err GrammarError.Memory → result ≡ Ok f }
+    ensures refused_exactly { (k : ℕ) → IsFirstFault profile bytes.now tokens.now k → result ≢ Err GrammarError.Memory → result ≡ Err (GrammarError.Syntax k) }
+{
+    let levels = levels_of(profile);
+    let most = most_arguments(profile);
+    let with_includes = has_includes(profile);
+    read_within(alloc, bytes, tokens, profile, with_includes, levels, most)
+}
+
+/// One list of tokens has at most one tree for each rule, so no bytes spell two files in one profile.
+pub fn one_file()
+    ensures file { (profile : Profile) (bytes : List ℕ) (f g : File) → Spells profile bytes f → Spells profile bytes g → f ≡ g }
+    ensures either { (profile : Profile) (bytes : List ℕ) (tokens : List Token) (f : File) (k : ℕ) → TokensSpell profile bytes tokens f → IsFirstFault profile bytes tokens k → ⊥ }
+    ensures fault { (profile : Profile) (bytes : List ℕ) (tokens : List Token) (j k : ℕ) → IsFirstFault profile bytes tokens j → IsFirstFault profile bytes tokens k → j ≡ k }
+{}
+
+/// No rule reads tokens without a full stop, so none reads a rest of the tokens that has none.
+pub fn no_rest_is_read()
+    ensures { (w : Bool) (most n : ℕ) (p : input.Input) (s : Statement) → AllByRecursion spec.IsNoStop p → IsStatement w most n p s [] → ⊥ }
+{}

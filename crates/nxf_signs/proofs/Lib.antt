@@ -1,0 +1,3 @@
+pub mod Tools
+pub mod Turns
+pub mod Spelled

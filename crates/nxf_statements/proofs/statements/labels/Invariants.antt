@@ -1,0 +1,7 @@
+use Rattle.std.proofs.Common.{◌≡◌, ◌-◌, [], length}
+use Rattle.nxf_formulas.specs.Parse.{index_text}
+use Rattle.nxf_statements.specs.ReadLists.{list_from}
+use Rattle.nxf_statements.proofs.statements.labels.Given as goal
+
+abbrev pub invariant-loop-turn : goal.invariant-loop-turn
+invariant-loop-turn l = list_from index_text (length l.fn.cursor) [] l.fn.cursor ≡ list_from index_text (l._turn-end - l._turn) l.found l.cursor

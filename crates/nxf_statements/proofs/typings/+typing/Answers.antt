@@ -1,0 +1,5 @@
+use Rattle.nxf_statements.proofs.Levels.{typing_is}
+use Rattle.nxf_statements.proofs.typings.+typing.Goals as goal
+
+pub typing-returns : goal.typing-returns
+typing-returns t c = rw (typing_is c.args.most c.args.left c.args.cursor.now) c.typing_from.ensures

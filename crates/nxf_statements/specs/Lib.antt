@@ -1,0 +1,10 @@
+pub mod Typings
+pub mod ReadTypings
+pub mod Logic
+pub mod ReadLists
+pub mod ReadLogic
+pub mod Moves
+pub mod Annotations
+pub mod Statements
+pub mod ReadStatements
+pub mod Regular
