@@ -22,9 +22,9 @@ use Rattle.nxf_tree.specs.declared.tree.IndexName.TheVariants as index
 use Rattle.nxf_tree.specs.declared.tree.Quantifier.{Quantifier}
 use Rattle.nxf_tree.specs.declared.tree.Quantifier.TheVariants as quantifier
 use Rattle.nxf_tree.specs.Depth.{term_depth, list_depth, formula_depth, formula_list_depth}
-use Rattle.nxf_tree.specs.Weight.{term_weight, list_weight, formula_weight, formula_list_weight}
+use Rattle.nxf_formulas.specs.Weight.{term_weight, list_weight, formula_weight, formula_list_weight}
 use Rattle.nxf_tree.proofs.Depths.{term_depth_of_App, formula_depth_of_And, formula_depth_of_Or, formula_depth_of_Not, formula_depth_of_Pair, formula_depth_of_Quant, formula_depth_of_Modal}
-use Rattle.nxf_tree.proofs.Weights.{term_weight_of_App, formula_weight_of_And, formula_weight_of_Or, formula_weight_of_Not, formula_weight_of_Pair, formula_weight_of_Quant, formula_weight_of_Modal}
+use Rattle.nxf_formulas.proofs.Weights.{term_weight_of_App, formula_weight_of_And, formula_weight_of_Or, formula_weight_of_Not, formula_weight_of_Pair, formula_weight_of_Quant, formula_weight_of_Modal}
 use Rattle.nxf_formulas.specs.Operators.{mode_of}
 use Rattle.nxf_formulas.specs.Regular.{is_regular_sort, is_regular_index, is_regular_term, is_regular_list, is_regular_formula, is_regular_formula_list}
 use Rattle.nxf_formulas.specs.Grammar.{IsTerm, variable, constant, call, AreTerms, last_term, more_terms, IsSort, individual, user, IsBoundSort, no_sort, with_sort, IsIndex, named, numbered, IsLongIndex, plain, indexed, IsUnit, brackets, not, box, dia, box_of, dia_of, long, distinct, all, exists, atom, atom_of, same, differ, IsQuantified, last_variable, more_variables, AreUnits, last_unit, more_units, IsFormula, alone, and, or, pair}

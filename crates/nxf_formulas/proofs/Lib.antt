@@ -4,4 +4,5 @@ pub mod Sound
 pub mod Exact
 pub mod Left
 pub mod RegularTrees
+pub mod Weights
 pub mod Fine

@@ -2,3 +2,5 @@ pub mod Operators
 pub mod Grammar
 pub mod Parse
 pub mod Regular
+pub mod Weight
+pub mod FileDepth

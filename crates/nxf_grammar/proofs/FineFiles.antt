@@ -16,8 +16,8 @@ use Rattle.nxf_signs.specs.Spelled.{Allowed, IsSpelled}
 use Rattle.nxf_signs.proofs.Spelled.{Permits, items_spelled}
 use Rattle.nxf_tree.specs.declared.tree.Statement.{Statement}
 use Rattle.nxf_tree.specs.declared.tree.File.{File}
-use Rattle.nxf_tree.specs.Depth.{statement_depth, statement_list_depth, file_depth}
-use Rattle.nxf_tree.specs.Weight.{statement_weight, statement_list_weight, file_weight}
+use Rattle.nxf_formulas.specs.FileDepth.{statement_depth, statement_list_depth, file_depth}
+use Rattle.nxf_formulas.specs.Weight.{statement_weight, statement_list_weight, file_weight}
 use Rattle.nxf_formulas.proofs.Fine.{Fine}
 use Rattle.nxf_statements.specs.Regular.{is_regular_statement, IsRegular}
 use Rattle.nxf_statements.proofs.Fine.{statement_fine}

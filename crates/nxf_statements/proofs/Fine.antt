@@ -32,9 +32,10 @@ use Rattle.nxf_statements.specs.Statements as s
 use Rattle.nxf_statements.specs.Annotations.{Open, Balances, balanced, token, IsAnnotation}
 use Rattle.nxf_tree.specs.declared.tree.Body.TheVariants as body
 use Rattle.nxf_tree.specs.declared.tree.Statement.TheVariants as statement
-use Rattle.nxf_tree.specs.Depth.{formula_depth, statement_depth}
-use Rattle.nxf_tree.specs.Weight.{formula_weight, value_weight, item_weight, entry_weight, item_list_weight, entry_list_weight, body_weight, statement_weight}
-use Rattle.nxf_tree.proofs.Weights.{value_weight_of_Items, item_weight_of_Entry}
+use Rattle.nxf_tree.specs.Depth.{formula_depth}
+use Rattle.nxf_formulas.specs.FileDepth.{statement_depth}
+use Rattle.nxf_formulas.specs.Weight.{formula_weight, value_weight, item_weight, entry_weight, item_list_weight, entry_list_weight, body_weight, statement_weight}
+use Rattle.nxf_formulas.proofs.Weights.{value_weight_of_Items, item_weight_of_Entry}
 use Rattle.nxf_formulas.specs.Grammar.{IsSort, IsIndex}
 use Rattle.nxf_formulas.specs.Regular.{is_regular_sort, is_regular_index}
 use Rattle.nxf_formulas.proofs.Left.{sort_left, index_left, long_left, formula_left}
