@@ -1,8 +1,8 @@
 ghost use Rattle.std.specs.Prelude.{◌≡◌};
 ghost use Rattle.nxf_formulas.specs.Operators as spec;
 
-use nxf_tree::{Mode, Op};
 use nxf_signs::Sign;
+use nxf_tree::{Mode, Op};
 
 pub fn operator(sign: Sign) -> Option<Op>
     ensures { result ≡ spec.operator sign }

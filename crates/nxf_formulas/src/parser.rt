@@ -9,8 +9,8 @@ ghost use Rattle.nxf_formulas.specs.Parse as spec;
 
 use crate::operators::{mode_of, operator};
 use nxf_base::{List, Text};
-use nxf_tree::{Formula, IndexName, Mode, Op, Quantifier, SortName, Term};
 use nxf_signs::{Cursor, GrammarError, Sign, push};
+use nxf_tree::{Formula, IndexName, Mode, Op, Quantifier, SortName, Term};
 use sqlite_items::Boxed;
 use std::alloc::Global;
 

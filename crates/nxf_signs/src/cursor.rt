@@ -6,10 +6,10 @@ ghost use Rattle.nxf_signs.specs.Input.{Gives};
 use crate::error::GrammarError;
 use crate::names::token_text;
 use crate::sign::{Profile, Sign, same_sign, sign_of};
-use tptp_lex::Token;
 use nxf_base::Text;
 use std::alloc::Global;
 use std::marker::Model;
+use tptp_lex::Token;
 
 /// The tokens that are left to read. It holds their text and copies none of it.
 #[derive(Drop)]

@@ -8,10 +8,10 @@ ghost use Rattle.nxf_statements.specs.Logic.{IsLogic};
 ghost use Rattle.nxf_statements.specs.ReadLists as lists;
 ghost use Rattle.nxf_statements.specs.ReadLogic as spec;
 
-use nxf_formulas::{index_text, long_index};
 use nxf_base::{List, Text};
-use nxf_tree::{IndexName, LogicSpec, SpecEntry, SpecItem, SpecKey, SpecValue};
+use nxf_formulas::{index_text, long_index};
 use nxf_signs::{Cursor, GrammarError, Sign, is_dollar, push};
+use nxf_tree::{IndexName, LogicSpec, SpecEntry, SpecItem, SpecKey, SpecValue};
 use std::alloc::Global;
 
 #[tactic(auto, unfolding(crate::specs::ReadLogic::spec_key))]

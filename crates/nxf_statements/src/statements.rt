@@ -13,10 +13,10 @@ ghost use Rattle.nxf_statements.specs.ReadStatements as spec;
 use crate::annotations::annotation;
 use crate::logics::logic;
 use crate::typings::typing;
-use nxf_formulas::{formula, index_text};
 use nxf_base::{List, Text};
-use nxf_tree::{Body, Role, Statement};
+use nxf_formulas::{formula, index_text};
 use nxf_signs::{Cursor, GrammarError, Sign, is_word, push};
+use nxf_tree::{Body, Role, Statement};
 use std::alloc::Global;
 
 /// What the body of a statement is, by the first word of its role.

@@ -7,10 +7,10 @@ ghost use Rattle.nxf_tree.specs.declared.tree.Typing.{Typing};
 ghost use Rattle.nxf_statements.specs.Typings.{IsTyping};
 ghost use Rattle.nxf_statements.specs.ReadTypings as spec;
 
-use nxf_formulas::sort_name;
 use nxf_base::{List, Text};
-use nxf_tree::{SortName, Typing};
+use nxf_formulas::sort_name;
 use nxf_signs::{Cursor, GrammarError, Sign, push};
+use nxf_tree::{SortName, Typing};
 use std::alloc::Global;
 
 #[tactic(auto, unfolding(crate::specs::ReadTypings::result))]
