@@ -8,6 +8,3 @@ mod roots;
 pub use gather_error::GatherError;
 pub use loading::{load_one, load_one_from};
 pub use roots::{Roots, load_first};
-
-#[cfg(test)]
-mod tests;
