@@ -7,8 +7,6 @@ mod keys;
 mod read;
 mod seen;
 mod spec;
-#[cfg(test)]
-mod tests;
 mod words;
 
 pub use error::SpecError;
