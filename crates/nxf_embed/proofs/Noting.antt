@@ -6,7 +6,9 @@ use Rattle.std.proofs.lemmas.List.Folds.{list_any-append}
 use Rattle.indexmap.specs.IndexSet.{insert_all}
 use Rattle.nxf_tree.specs.Names.{same_text}
 use Rattle.nxf_tree.specs.FirstForm.{each_once}
-use Rattle.nxf_meaning.proofs.Spelling.{same_text-true, same_text-refl, both_ways}
+use Rattle.nxf_meaning.proofs.Bounds.{and-true}
+use Rattle.nxf_meaning.proofs.ProfileLaw.{same_text-sym}
+use Rattle.nxf_meaning.proofs.Spelling.{same_text-true}
 
 module _ {X : Type 0} where
   filter-both_step : (p : X → Bool) (x : X) (xs ys : List X) (a b : Bool) → p x ≡ a → filter p xs ≡ ys
@@ -28,31 +30,23 @@ module _ {X : Type 0} where
 abbrev fresh : List (List ℕ) → List ℕ → Bool
 fresh ks y = not (list_any (same_text y) ks)
 
-same_text-swap : (x y : List ℕ) → same_text x y ≡ same_text y x
-same_text-swap x y =
-    both_ways _ _ (λ h. rw (same_text-true x y h) (same_text-refl y)) (λ h. rw (same_text-true y x h) (same_text-refl x))
-
 neither : (a b c : Bool) → b ≡ c → not (a || (b || false)) ≡ not a && not c
 neither true b c e = refl
 neither false true c e = ap not e
 neither false false c e = ap not e
 
 fresh_push : (x : List ℕ) (ks : List (List ℕ)) (y : List ℕ) → fresh (ks ++ x ∷ []) y ≡ fresh ks y && not (same_text x y)
-fresh_push x ks y = ap not (list_any-append (same_text y) ks (x ∷ [])) ∙ neither _ _ _ (same_text-swap y x)
+fresh_push x ks y = ap not (list_any-append (same_text y) ks (x ∷ [])) ∙ neither _ _ _ (same_text-sym y x)
 
 -- where ks has x, a name that ks lacks is not x
 fresh_apart : (x : List ℕ) (ks : List (List ℕ)) (y : List ℕ) → list_any (same_text x) ks ≡ true → fresh ks y ≡ fresh ks y && not (same_text x y)
 fresh_apart x ks y h = by (same_text x y) refl
   where
-    kept : (a : Bool) → a ≡ a && true
-    kept true = refl
-    kept false = refl
-
     by : (b : Bool) → same_text x y ≡ b → fresh ks y ≡ fresh ks y && not b
     by true e =
         let here : fresh ks y ≡ false = ap (λ z. fresh ks z) (sym (same_text-true x y e)) ∙ ap not h in
         rw here refl
-    by false e = kept (fresh ks y)
+    by false e = sym (and-true (fresh ks y))
 
 noted_step : (ks : List (List ℕ)) (x : List ℕ) (xs : List (List ℕ)) (b : Bool) → list_any (same_text x) ks ≡ b
     → ((js : List (List ℕ)) → insert_all same_text js xs ≡ js ++ filter (fresh js) (each_once xs))

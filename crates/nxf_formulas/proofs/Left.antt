@@ -2,7 +2,6 @@
 use Rattle.std.proofs.Common.{ℕ, List}
 use Rattle.std.specs.List.{AllByRecursion}
 use Rattle.nxf_signs.specs.declared.sign.Sign.{Sign}
-use Rattle.nxf_signs.specs.declared.sign.Sign.TheVariants as sign
 use Rattle.nxf_signs.specs.Input.{Spelling, Item, Input}
 use Rattle.nxf_tree.specs.declared.tree.SortName.{SortName}
 use Rattle.nxf_tree.specs.declared.tree.Term.{Term}

@@ -14,7 +14,7 @@ use Rattle.nxf_tree.specs.declared.tree.Quantifier.{Quantifier}
 use Rattle.nxf_tree.specs.declared.tree.Mode.{Mode}
 use Rattle.nxf_tree.specs.declared.tree.Op.{Op}
 use Rattle.nxf_tree.specs.Shapes.{Not_is, Pair_is, Quant_is, Modal_is}
-use Rattle.nxf_formulas.specs.Weight.{term_weight, terms_weight, list_weight, formula_weight, formulas_weight, formula_list_weight, value_weight, item_weight, row_weight, item_list_weight, entry_weight}
+use Rattle.nxf_tree.specs.Weight.{term_weight, terms_weight, list_weight, formula_weight, formulas_weight, formula_list_weight, value_weight, item_weight, row_weight, item_list_weight, entry_weight}
 
 row_weight_is : {m : _} (ts : Row_of-Term m) → terms_weight ts ≡ list_weight (items-the_row-Term _ ts)
 row_weight_is end_of-Term = refl

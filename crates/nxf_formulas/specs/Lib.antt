@@ -2,5 +2,3 @@ pub mod Operators
 pub mod Grammar
 pub mod Parse
 pub mod Regular
-pub mod Weight
-pub mod FileDepth

@@ -209,6 +209,41 @@ long inner (Some m) = do
   f ← group inner
   pure (formulas.Modal m i f)
 
+-- behind `~`
+abbrev pub negation : Parser Formula → Parser Formula
+negation inner = do
+  f ← inner
+  pure (formulas.Not f)
+
+-- behind a modality without an index
+abbrev pub plain_modal : Parser Formula → Mode → Parser Formula
+plain_modal inner m = do
+  f ← inner
+  pure (formulas.Modal m index.Plain f)
+
+-- behind `$distinct`
+abbrev pub distinct : Parser (List Term) → Parser Formula
+distinct several = do
+  expect sign.Open
+  ts ← several
+  pure (formulas.Distinct ts)
+
+module _ (one : Parser Term) (given : Parser (List Term)) where
+  -- an atom, or a comparison whose left side is a name
+  abbrev pub from_name : Parser Formula
+  from_name = do
+    a ← take_name
+    ts ← given
+    next ← peek
+    after_name one a ts next
+
+  -- a comparison whose left side is a variable
+  abbrev pub from_variable : Parser Formula
+  from_variable = do
+    v ← take_text
+    next ← peek
+    comparison one (terms.Var v) next
+
 module _ (one : Parser Term) (given : Parser (List Term)) (several : Parser (List Term)) (inner : Parser Formula) (quantified : Quantifier → Parser Formula) where
   abbrev pub unit_by : Sign → Parser Formula
   unit_by sign.Open = do
@@ -216,16 +251,13 @@ module _ (one : Parser Term) (given : Parser (List Term)) (several : Parser (Lis
     group inner
   unit_by sign.Not = do
     step
-    f ← inner
-    pure (formulas.Not f)
+    negation inner
   unit_by sign.Box = do
     step
-    f ← inner
-    pure (formulas.Modal mode.Box index.Plain f)
+    plain_modal inner mode.Box
   unit_by sign.Dia = do
     step
-    f ← inner
-    pure (formulas.Modal mode.Dia index.Plain f)
+    plain_modal inner mode.Dia
   unit_by sign.LeftBracket = do
     step
     modal_of inner mode.Box sign.RightBracket
@@ -238,9 +270,7 @@ module _ (one : Parser Term) (given : Parser (List Term)) (several : Parser (Lis
     long inner (mode_of word)
   unit_by sign.Distinct = do
     step
-    expect sign.Open
-    ts ← several
-    pure (formulas.Distinct ts)
+    distinct several
   unit_by sign.All = do
     step
     expect sign.LeftBracket
@@ -255,15 +285,8 @@ module _ (one : Parser Term) (given : Parser (List Term)) (several : Parser (Lis
   unit_by sign.False = do
     step
     pure formulas.False
-  unit_by sign.Name = do
-    a ← take_name
-    ts ← given
-    next ← peek
-    after_name one a ts next
-  unit_by sign.Upper = do
-    v ← take_text
-    next ← peek
-    comparison one (terms.Var v) next
+  unit_by sign.Name = from_name one given
+  unit_by sign.Upper = from_variable one given
   unit_by _ = refuse
 
 unfoldable mutual

@@ -1,4 +1,5 @@
 //! Recursive descent. Each function goes on with what it read, and its depth is bounded by the levels that are left.
+//! The functions on the way down are kept apart, so that a level takes little of the stack.
 
 ghost use Rattle.std.specs.Prelude.{[], ◌≡◌, ℕ};
 ghost use Rattle.nxf_signs.specs.Input as input;
@@ -94,6 +95,7 @@ fn terms(
 
 // ---- formulas over units
 
+#[inline(never)]
 #[cycle(unit)]
 #[tactic(auto, unfolding(crate::specs::Parse::whole))]
 fn whole(
@@ -131,6 +133,7 @@ fn chain(
     }
 }
 
+#[inline(never)]
 #[cycle(unit)]
 fn pair(
     alloc: Global,
@@ -151,6 +154,7 @@ fn pair(
     Ok(Formula::Pair(op, first, Boxed::new(alloc, second)?))
 }
 
+#[inline(never)]
 #[cycle(unit)]
 fn units(
     alloc: Global,
@@ -190,6 +194,7 @@ pub fn sort_name(alloc: Global, cursor: &mut Cursor<'_>) -> Result<SortName, Gra
     }
 }
 
+#[inline(never)]
 #[tactic(auto, unfolding(crate::specs::Parse::bound_sort))]
 fn bound_sort(alloc: Global, cursor: &mut Cursor<'_>) -> Result<SortName, GrammarError>
     ensures { Gives (spec.bound_sort cursor.old) result cursor.new }
@@ -237,6 +242,7 @@ pub fn long_index(alloc: Global, cursor: &mut Cursor<'_>) -> Result<IndexName, G
     }
 }
 
+#[inline(never)]
 fn comparison(
     alloc: Global,
     cursor: &mut Cursor<'_>,
@@ -259,6 +265,7 @@ fn comparison(
     }
 }
 
+#[inline(never)]
 fn after_name(
     alloc: Global,
     cursor: &mut Cursor<'_>,
@@ -276,6 +283,7 @@ fn after_name(
     }
 }
 
+#[inline(never)]
 #[cycle(unit)]
 #[tactic(auto, unfolding(crate::specs::Parse::scope))]
 fn scope(
@@ -295,6 +303,7 @@ fn scope(
     unit(alloc, cursor, left, most)
 }
 
+#[inline(never)]
 #[cycle(unit)]
 #[tactic(auto, unfolding(crate::specs::Parse::variable, crate::specs::Parse::unit))]
 fn quantified(
@@ -332,6 +341,7 @@ fn inner(
 }
 
 /// A formula one deeper, up to the closing bracket.
+#[inline(never)]
 #[cycle(unit)]
 #[tactic(auto, unfolding(crate::specs::Parse::group))]
 fn group(
@@ -351,6 +361,7 @@ fn group(
 }
 
 /// What stands after the opening bracket of an indexed modality.
+#[inline(never)]
 #[cycle(unit)]
 #[tactic(auto, unfolding(crate::specs::Parse::modal_of))]
 fn modal_of(
@@ -371,6 +382,7 @@ fn modal_of(
 }
 
 /// What stands after the brace of a long form.
+#[inline(never)]
 #[cycle(unit)]
 #[tactic(auto, unfolding(crate::specs::Parse::long))]
 fn long(
@@ -393,6 +405,80 @@ fn long(
     Ok(Formula::Modal(mode, index, Boxed::new(alloc, found)?))
 }
 
+/// An atom, or a comparison whose left side is a name.
+#[inline(never)]
+fn from_name(
+    alloc: Global,
+    cursor: &mut Cursor<'_>,
+    left: usize,
+    most: usize,
+) -> Result<Formula, GrammarError>
+    ensures { Gives (spec.from_name (spec.term most left) (spec.arguments most (spec.argument most left)) cursor.old) result cursor.new }
+{
+    let name = cursor.take_name(alloc)?;
+    let given = arguments(alloc, cursor, left, most)?;
+    after_name(alloc, cursor, left, most, name, given)
+}
+
+/// A comparison whose left side is a variable.
+#[inline(never)]
+fn from_variable(
+    alloc: Global,
+    cursor: &mut Cursor<'_>,
+    left: usize,
+    most: usize,
+) -> Result<Formula, GrammarError>
+    ensures { Gives (spec.from_variable (spec.term most left) (spec.arguments most (spec.argument most left)) cursor.old) result cursor.new }
+{
+    let variable = cursor.take_text(alloc)?;
+    comparison(alloc, cursor, left, most, Term::Var(variable))
+}
+
+/// What is behind `$distinct`.
+#[inline(never)]
+fn distinct(
+    alloc: Global,
+    cursor: &mut Cursor<'_>,
+    left: usize,
+    most: usize,
+) -> Result<Formula, GrammarError>
+    ensures { Gives (spec.distinct (spec.many most (spec.argument most left)) cursor.old) result cursor.new }
+{
+    cursor.expect(Sign::Open)?;
+    Ok(Formula::Distinct(many(alloc, cursor, left, most)?))
+}
+
+/// What is behind `~`.
+#[inline(never)]
+#[cycle(unit)]
+fn negation(
+    alloc: Global,
+    cursor: &mut Cursor<'_>,
+    left: usize,
+    most: usize,
+) -> Result<Formula, GrammarError>
+    ensures { Gives (spec.negation (spec.inner most left) cursor.old) result cursor.new }
+{
+    let part = inner(alloc, cursor, left, most)?;
+    Ok(Formula::Not(Boxed::new(alloc, part)?))
+}
+
+/// What is behind a modality without an index.
+#[inline(never)]
+#[cycle(unit)]
+fn plain_modal(
+    alloc: Global,
+    cursor: &mut Cursor<'_>,
+    left: usize,
+    most: usize,
+    mode: Mode,
+) -> Result<Formula, GrammarError>
+    ensures { Gives (spec.plain_modal (spec.inner most left) mode cursor.old) result cursor.new }
+{
+    let part = inner(alloc, cursor, left, most)?;
+    Ok(Formula::Modal(mode, IndexName::Plain, Boxed::new(alloc, part)?))
+}
+
 #[cycle(unit)]
 fn unit_from(
     alloc: Global,
@@ -409,18 +495,15 @@ fn unit_from(
         }
         Sign::Not => {
             cursor.step();
-            let inner = inner(alloc, cursor, left, most)?;
-            Ok(Formula::Not(Boxed::new(alloc, inner)?))
+            negation(alloc, cursor, left, most)
         }
         Sign::Box => {
             cursor.step();
-            let inner = inner(alloc, cursor, left, most)?;
-            Ok(Formula::Modal(Mode::Box, IndexName::Plain, Boxed::new(alloc, inner)?))
+            plain_modal(alloc, cursor, left, most, Mode::Box)
         }
         Sign::Dia => {
             cursor.step();
-            let inner = inner(alloc, cursor, left, most)?;
-            Ok(Formula::Modal(Mode::Dia, IndexName::Plain, Boxed::new(alloc, inner)?))
+            plain_modal(alloc, cursor, left, most, Mode::Dia)
         }
         Sign::LeftBracket => {
             cursor.step();
@@ -437,8 +520,7 @@ fn unit_from(
         }
         Sign::Distinct => {
             cursor.step();
-            cursor.expect(Sign::Open)?;
-            Ok(Formula::Distinct(many(alloc, cursor, left, most)?))
+            distinct(alloc, cursor, left, most)
         }
         Sign::All => {
             cursor.step();
@@ -458,15 +540,8 @@ fn unit_from(
             cursor.step();
             Ok(Formula::False)
         }
-        Sign::Name => {
-            let name = cursor.take_name(alloc)?;
-            let given = arguments(alloc, cursor, left, most)?;
-            after_name(alloc, cursor, left, most, name, given)
-        }
-        Sign::Upper => {
-            let variable = cursor.take_text(alloc)?;
-            comparison(alloc, cursor, left, most, Term::Var(variable))
-        }
+        Sign::Name => from_name(alloc, cursor, left, most),
+        Sign::Upper => from_variable(alloc, cursor, left, most),
         _ => Err(GrammarError::Syntax(0)),
     }
 }

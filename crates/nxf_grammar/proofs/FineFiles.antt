@@ -1,6 +1,6 @@
 -- Files that are read are regular, no deeper than their profile allows, and no heavier than their tokens.
-use Rattle.std.proofs.Common.{◌≡◌, ℕ, suc, ◌+◌, ◌-◌, ◌*◌, ◌≤◌, Bool, true, false, ◌&&◌, List, [], ◌∷◌, length, map, Result, Ok, Err, refl, ap, ◌∙◌, subst, arith}
-use Rattle.std.specs.Prelude.{IfOk, IfErr}
+use Rattle.std.proofs.Common.{◌≡◌, ℕ, suc, ◌+◌, ◌*◌, ◌≤◌, Bool, true, false, List, [], ◌∷◌, length, Result, Ok, Err, refl, ap, ◌∙◌, arith}
+use Rattle.std.specs.Prelude.{IfOk}
 use Rattle.std.specs.List.{AllByRecursion, list_all}
 use Rattle.std.proofs.lemmas.Bool.{and_from}
 use Rattle.std.proofs.lemmas.List.{length-map}
@@ -16,9 +16,8 @@ use Rattle.nxf_signs.specs.Spelled.{Allowed, IsSpelled}
 use Rattle.nxf_signs.proofs.Spelled.{Permits, items_spelled}
 use Rattle.nxf_tree.specs.declared.tree.Statement.{Statement}
 use Rattle.nxf_tree.specs.declared.tree.File.{File}
-use Rattle.nxf_formulas.specs.FileDepth.{statement_depth, statement_list_depth, file_depth}
-use Rattle.nxf_formulas.specs.Weight.{statement_weight, statement_list_weight, file_weight}
-use Rattle.nxf_formulas.proofs.Fine.{Fine}
+use Rattle.nxf_tree.specs.FileDepth.{statement_list_depth, file_depth}
+use Rattle.nxf_tree.specs.Weight.{statement_list_weight, file_weight}
 use Rattle.nxf_statements.specs.Regular.{is_regular_statement, IsRegular}
 use Rattle.nxf_statements.proofs.Fine.{statement_fine}
 use Rattle.nxf_grammar.specs.Files.{before, statement_parts, AreRead, no_more, one_more}

@@ -13,8 +13,8 @@ ghost use Rattle.nxf_statements.specs.ReadStatements.{read_statement};
 ghost use Rattle.nxf_grammar.specs.Files as spec;
 ghost use Rattle.nxf_grammar.specs.Files.{AreRead, Explains};
 ghost use Rattle.nxf_grammar.specs.Profiles as profiles;
-ghost use Rattle.nxf_formulas.specs.FileDepth.{file_depth};
-ghost use Rattle.nxf_formulas.specs.Weight.{file_weight};
+ghost use Rattle.nxf_tree.specs.FileDepth.{file_depth};
+ghost use Rattle.nxf_tree.specs.Weight.{file_weight};
 ghost use Rattle.nxf_statements.specs.Regular.{IsRegular};
 ghost use Rattle.nxf_grammar.specs.Spells.{parts_of, TokensSpell, IsFirstFault, Spells, IsCause};
 

@@ -1,11 +1,11 @@
 -- The text of a name is printable, and the items of a text are spelled as their signs say.
-use Rattle.std.proofs.Common.{◌≡◌, ℕ, ◌+◌, ◌<◌, suc, Bool, true, false, cond, not, ◌&&◌, ◌||◌, List, [], ◌∷◌, ◌++◌, length, map, refl, sym, ap, subst, ◌∙◌, arith, length-append, inl, inr, ⊎_elim, ◌⊎◌}
+use Rattle.std.proofs.Common.{◌≡◌, ℕ, ◌<◌, suc, Bool, true, false, cond, not, ◌&&◌, ◌||◌, List, [], ◌∷◌, ◌++◌, length, refl, ap, ◌∙◌, arith, length-append, inl, inr, ⊎_elim, ◌⊎◌}
 use Rattle.std.specs.Prelude.{◌==◌, nat_le, IsTrue}
 use Rattle.std.specs.List.{list_all, AllByRecursion}
 use Rattle.std.specs.Str.{bytes_eq}
 use Rattle.std.proofs.lemmas.Bool.{and_parts, and_from, cond-false, cond-true, eqb-true, or_left, or_right}
 use Rattle.std.proofs.lemmas.Bool.Decides.{nat_tests}
-use Rattle.tptp_lex.specs.Bytes.{is_lower, is_upper, is_digit, is_word_byte, is_name_byte}
+use Rattle.tptp_lex.specs.Bytes.{is_lower, is_digit, is_word_byte}
 use Rattle.tptp_lex.specs.Shapes.{begins_then, closes, is_quoted, is_digits, IsNumber, IsLexeme}
 use Rattle.tptp_lex.specs.Texts.{unescaped, token_text, spelling_of, IsSpelled as IsLexed}
 use Rattle.tptp_lex.specs.declared.token.Token.{Token}
@@ -18,8 +18,8 @@ use Rattle.nxf_signs.specs.declared.sign.Sign.{Sign}
 use Rattle.nxf_signs.specs.declared.sign.Sign.TheVariants as sign
 use Rattle.nxf_signs.specs.Signs.{lookup, number, punctuation, words, without_modal, without_distinct, allowed, sign_of}
 use Rattle.nxf_signs.specs.Names.{is_word}
-use Rattle.nxf_signs.specs.Input.{Item, Input, input_of, item_of}
-use Rattle.nxf_signs.specs.Spelled.{Allowed, is_printable, is_printable_text, is_word_text, is_variable_text, is_spelled, IsSpelled}
+use Rattle.nxf_signs.specs.Input.{input_of, item_of}
+use Rattle.nxf_signs.specs.Spelled.{Allowed, is_printable_byte, is_printable_text, is_word_text, is_spelled, IsSpelled}
 
 -- ---- texts
 
@@ -27,17 +27,17 @@ all_pass : (p q : ℕ → Bool) (xs : List ℕ) → ((b : ℕ) → p b ≡ true 
 all_pass p q [] more h = refl
 all_pass p q (x ∷ xs) more h = let t = and_parts (p x) (list_all p xs) h in and_from (q x) (list_all q xs) (more x t.0) (all_pass p q xs more t.1)
 
-begins_pass : (first others : ℕ → Bool) (s : List ℕ) → ((b : ℕ) → first b ≡ true → is_printable b ≡ true) → ((b : ℕ) → others b ≡ true → is_printable b ≡ true) → begins_then first others s ≡ true → is_printable_text s ≡ true
+begins_pass : (first others : ℕ → Bool) (s : List ℕ) → ((b : ℕ) → first b ≡ true → is_printable_byte b ≡ true) → ((b : ℕ) → others b ≡ true → is_printable_byte b ≡ true) → begins_then first others s ≡ true → is_printable_text s ≡ true
 begins_pass first others [] one more h = absurd cc
-begins_pass first others (b ∷ bs) one more h = let t = and_parts (first b) (list_all others bs) h in and_from (is_printable b) (list_all is_printable bs) (one b t.0) (all_pass others is_printable bs more t.1)
+begins_pass first others (b ∷ bs) one more h = let t = and_parts (first b) (list_all others bs) h in and_from (is_printable_byte b) (list_all is_printable_byte bs) (one b t.0) (all_pass others is_printable_byte bs more t.1)
 
-lower_printable : (b : ℕ) → is_lower b ≡ true → is_printable b ≡ true
+lower_printable : (b : ℕ) → is_lower b ≡ true → is_printable_byte b ≡ true
 lower_printable b h = grind (arith, nat_tests)
 
-word_byte_printable : (b : ℕ) → is_word_byte b ≡ true → is_printable b ≡ true
+word_byte_printable : (b : ℕ) → is_word_byte b ≡ true → is_printable_byte b ≡ true
 word_byte_printable b h = grind (arith, nat_tests)
 
-digit_printable : (b : ℕ) → is_digit b ≡ true → is_printable b ≡ true
+digit_printable : (b : ℕ) → is_digit b ≡ true → is_printable_byte b ≡ true
 digit_printable b h = grind (arith, nat_tests)
 
 no_quote : (b : ℕ) → (is_lower b || is_digit b) ≡ true → (b == 39 || b == 34) ≡ false
@@ -67,22 +67,22 @@ digits_printable (b ∷ bs) h =
 
 -- ---- quoted texts
 
-escaped_printable : (b : ℕ) → (b == 39 || b == 92) ≡ true → is_printable b ≡ true
+escaped_printable : (b : ℕ) → (b == 39 || b == 92) ≡ true → is_printable_byte b ≡ true
 escaped_printable b h = grind (arith, nat_tests)
 
-unescaped_by : (b : ℕ) (bs : List ℕ) (q e : Bool) → (b == 39) ≡ q → (b == 92) ≡ e → cond q (length bs == 0) ((nat_le 32 b && nat_le b 126) && closes 39 e bs) ≡ true → (closes 39 true bs ≡ true → list_all is_printable (unescaped 39 true bs) ≡ true) → (closes 39 false bs ≡ true → list_all is_printable (unescaped 39 false bs) ≡ true) → list_all is_printable (cond q [] (cond e (unescaped 39 true bs) (b ∷ unescaped 39 false bs))) ≡ true
+unescaped_by : (b : ℕ) (bs : List ℕ) (q e : Bool) → (b == 39) ≡ q → (b == 92) ≡ e → cond q (length bs == 0) ((nat_le 32 b && nat_le b 126) && closes 39 e bs) ≡ true → (closes 39 true bs ≡ true → list_all is_printable_byte (unescaped 39 true bs) ≡ true) → (closes 39 false bs ≡ true → list_all is_printable_byte (unescaped 39 false bs) ≡ true) → list_all is_printable_byte (cond q [] (cond e (unescaped 39 true bs) (b ∷ unescaped 39 false bs))) ≡ true
 unescaped_by b bs true e qe ee h after more = refl
 unescaped_by b bs false true qe ee h after more = after (and_parts (nat_le 32 b && nat_le b 126) (closes 39 true bs) h).1
-unescaped_by b bs false false qe ee h after more = let t = and_parts (nat_le 32 b && nat_le b 126) (closes 39 false bs) h in and_from (is_printable b) (list_all is_printable (unescaped 39 false bs)) t.0 (more t.1)
+unescaped_by b bs false false qe ee h after more = let t = and_parts (nat_le 32 b && nat_le b 126) (closes 39 false bs) h in and_from (is_printable_byte b) (list_all is_printable_byte (unescaped 39 false bs)) t.0 (more t.1)
 
-unescaped_printable : (is_escaped : Bool) (s : List ℕ) → closes 39 is_escaped s ≡ true → list_all is_printable (unescaped 39 is_escaped s) ≡ true
+unescaped_printable : (is_escaped : Bool) (s : List ℕ) → closes 39 is_escaped s ≡ true → list_all is_printable_byte (unescaped 39 is_escaped s) ≡ true
 unescaped_printable is_escaped [] h = absurd cc
 unescaped_printable true (b ∷ bs) h =
     let t = and_parts (b == 39 || b == 92) (closes 39 false bs) h in
-    and_from (is_printable b) (list_all is_printable (unescaped 39 false bs)) (escaped_printable b t.0) (unescaped_printable false bs t.1)
+    and_from (is_printable_byte b) (list_all is_printable_byte (unescaped 39 false bs)) (escaped_printable b t.0) (unescaped_printable false bs t.1)
 unescaped_printable false (b ∷ bs) h = unescaped_by b bs (b == 39) (b == 92) refl refl h (unescaped_printable true bs) (unescaped_printable false bs)
 
-some_printable : (s : List ℕ) → 0 < length s → list_all is_printable s ≡ true → is_printable_text s ≡ true
+some_printable : (s : List ℕ) → 0 < length s → list_all is_printable_byte s ≡ true → is_printable_text s ≡ true
 some_printable [] some h = absurd (omega arith)
 some_printable (b ∷ bs) some h = h
 

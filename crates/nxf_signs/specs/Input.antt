@@ -1,5 +1,5 @@
 -- What a parser reads from, and the steps that every rule is made of.
-use Rattle.std.specs.Prelude.{◌≡◌, ◌≢◌, ◌≤◌, ℕ, ◌-◌, Bool, if◌then◌else◌, List, [], ◌∷◌, length, map, take, drop, Option, Some, None, Result, Ok, Err}
+use Rattle.std.specs.Prelude.{◌≡◌, ◌≢◌, ℕ, Bool, if◌then◌else◌, List, [], ◌∷◌, map, Option, Some, None, Result, Ok, Err}
 use Rattle.tptp_lex.specs.declared.token.Token.{Token}
 use Rattle.nxf_signs.specs.declared.sign.Sign.{Sign}
 use Rattle.nxf_signs.specs.declared.sign.Sign.TheVariants as sign

@@ -15,12 +15,13 @@ pub record Allowed : Type 0 where
   -- the formulas `$distinct`
   pub distinct : Bool
 
-abbrev pub is_printable : ℕ → Bool
-is_printable b = nat_le 32 b && nat_le b 126
+-- a printable byte of ASCII, or a space
+abbrev pub is_printable_byte : ℕ → Bool
+is_printable_byte b = nat_le 32 b && nat_le b 126
 
 -- one byte or more, each from 32 to 126
 abbrev pub is_printable_text : List ℕ → Bool
-is_printable_text = begins_then is_printable is_printable
+is_printable_text = begins_then is_printable_byte is_printable_byte
 
 -- a word of TPTP
 abbrev pub is_word_text : List ℕ → Bool

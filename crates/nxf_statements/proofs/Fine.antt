@@ -1,14 +1,10 @@
 -- Statements that are read are regular, no deeper than their levels allow, and no heavier than the tokens that they take.
-use Rattle.std.proofs.Common.{◌≡◌, ◌≢◌, ℕ, suc, ◌+◌, ◌≤◌, Bool, true, false, cond, ◌&&◌, List, [], ◌∷◌, length, Option, Some, None, refl, ap, ◌∙◌, arith}
+use Rattle.std.proofs.Common.{◌≡◌, ℕ, ◌+◌, ◌≤◌, Bool, true, false, cond, ◌&&◌, List, [], ◌∷◌, length, Option, refl, ap, ◌∙◌, arith}
 use Rattle.std.specs.Prelude.{nat_le, codes}
 use Rattle.std.specs.List.{AllByRecursion, list_all}
 use Rattle.std.specs.Str.{bytes_eq}
 use Rattle.std.proofs.lemmas.Bool.{and_from, le-leb}
-use Rattle.tptp_lex.specs.Texts.{token_text}
-use Rattle.nxf_signs.specs.declared.sign.Sign.{Sign}
-use Rattle.nxf_signs.specs.declared.sign.Sign.TheVariants as sign
-use Rattle.nxf_signs.specs.Names.{is_word}
-use Rattle.nxf_signs.specs.Input.{Spelling, Item, Input}
+use Rattle.nxf_signs.specs.Input.{Spelling, Input}
 use Rattle.nxf_signs.specs.Spelled.{Allowed, is_printable_text, is_word_text, IsSpelled}
 use Rattle.nxf_signs.proofs.Spelled.{name_printable, name_word}
 use Rattle.nxf_tree.specs.declared.tree.SortName.{SortName}
@@ -23,28 +19,24 @@ use Rattle.nxf_tree.specs.declared.tree.Role.{Role}
 use Rattle.nxf_tree.specs.declared.tree.Body.{Body}
 use Rattle.nxf_tree.specs.declared.tree.Statement.{Statement}
 use Rattle.nxf_statements.specs.declared.statements.BodyKind.{BodyKind}
-use Rattle.nxf_statements.specs.declared.statements.BodyKind.TheVariants as kinds
 use Rattle.nxf_statements.specs.Typings.{IsResult, of_sort, truth, AreSorts, last_sort, more_sorts, IsType, plain, of_one, of_sorts, brackets, IsTyping, in_brackets}
 use Rattle.nxf_statements.specs.Typings as t
 use Rattle.nxf_statements.specs.Logic.{IsKey, dollar, name, box, box_of, long, IsValue, word, none, items, AreItems, last_item, more_items, IsItem, word_item, entry_item, IsEntry, entry, AreEntries, last_entry, more_entries, IsLogic, no_entries, entries}
 use Rattle.nxf_statements.specs.Statements.{IsWord, IsName, IsRole, of_word, with_suffix, IsBody, typing, logic, formula, AreLabels, last_label, more_labels, IsStatement, annotated, noted, include, include_some}
 use Rattle.nxf_statements.specs.Statements as s
-use Rattle.nxf_statements.specs.Annotations.{Open, Balances, balanced, token, IsAnnotation}
 use Rattle.nxf_tree.specs.declared.tree.Body.TheVariants as body
 use Rattle.nxf_tree.specs.declared.tree.Statement.TheVariants as statement
 use Rattle.nxf_tree.specs.Depth.{formula_depth}
-use Rattle.nxf_formulas.specs.FileDepth.{statement_depth}
-use Rattle.nxf_formulas.specs.Weight.{formula_weight, value_weight, item_weight, entry_weight, item_list_weight, entry_list_weight, body_weight, statement_weight}
+use Rattle.nxf_tree.specs.FileDepth.{statement_depth}
+use Rattle.nxf_tree.specs.Weight.{value_weight, item_weight, entry_weight, item_list_weight, entry_list_weight, body_weight, statement_weight}
 use Rattle.nxf_formulas.proofs.Weights.{value_weight_of_Items, item_weight_of_Entry}
-use Rattle.nxf_formulas.specs.Grammar.{IsSort, IsIndex}
-use Rattle.nxf_formulas.specs.Regular.{is_regular_sort, is_regular_index}
-use Rattle.nxf_formulas.proofs.Left.{sort_left, index_left, long_left, formula_left}
+use Rattle.nxf_formulas.specs.Regular.{is_regular_sort}
+use Rattle.nxf_formulas.proofs.Left.{sort_left, index_left}
 use Rattle.nxf_formulas.proofs.Fine.{Fine, FineList, sort_shorter, sort_regular, index_shorter, index_regular, long_shorter, long_regular, formula_fine}
-use Rattle.nxf_statements.specs.declared.statements.Keyword.{Keyword}
 use Rattle.nxf_statements.specs.declared.statements.Keyword.TheVariants as keyword
 use Rattle.nxf_statements.specs.Statements.{body_kind, keyword_of}
-use Rattle.nxf_statements.specs.Regular.{is_regular_result, is_regular_typing, is_regular_key, is_regular_value, is_regular_item, are_regular_items, is_regular_entry, is_regular_role, is_regular_suffix, is_body_of, is_regular_body, is_regular_statement}
-use Rattle.nxf_statements.proofs.Left.{result_left, sorts_left, type_left, typing_left, key_left, item_left, items_left, value_left, entry_left, word_left, name_left, role_left, body_left, labels_left, annotation_left}
+use Rattle.nxf_statements.specs.Regular.{is_regular_result, is_regular_typing, is_regular_key, is_regular_value, is_regular_item, are_regular_items, is_regular_entry, is_regular_role, is_body_of, is_regular_body, is_regular_statement}
+use Rattle.nxf_statements.proofs.Left.{sorts_left, key_left, item_left, entry_left, word_left, name_left, role_left}
 
 -- ---- values
 

@@ -15,7 +15,6 @@ use Rattle.nxf_tree.specs.declared.tree.Role.{Role}
 use Rattle.nxf_tree.specs.declared.tree.Body.{Body}
 use Rattle.nxf_tree.specs.declared.tree.Statement.{Statement}
 use Rattle.nxf_statements.specs.declared.statements.BodyKind.{BodyKind}
-use Rattle.nxf_statements.specs.declared.statements.BodyKind.TheVariants as kinds
 use Rattle.nxf_statements.specs.Typings.{IsResult, of_sort, truth, AreSorts, last_sort, more_sorts, IsType, plain, of_one, of_sorts, brackets, IsTyping, in_brackets}
 use Rattle.nxf_statements.specs.Typings as t
 use Rattle.nxf_statements.specs.Logic.{IsKey, dollar, name, box, box_of, long, IsValue, word, none, items, AreItems, last_item, more_items, IsItem, word_item, entry_item, IsEntry, entry, AreEntries, last_entry, more_entries, IsLogic, no_entries, entries}

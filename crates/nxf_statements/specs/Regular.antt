@@ -1,6 +1,6 @@
 -- Regular statements: names, roles and numbers of arguments are those that the grammar can spell, a body is of the kind
 -- that its role asks for, and the statements use what the file may use.
-use Rattle.std.specs.Prelude.{ℕ, Bool, true, false, ◌&&◌, nat_le, List, [], ◌∷◌, length, Option, Some, None, IsTrue}
+use Rattle.std.specs.Prelude.{ℕ, Bool, true, false, ◌&&◌, nat_le, List, length, Option, Some, None, IsTrue}
 use Rattle.std.specs.List.{list_all}
 use Rattle.nxf_signs.specs.Spelled.{Allowed, is_printable_text, is_word_text}
 use Rattle.nxf_tree.specs.declared.tree.SortName.{SortName}

@@ -1,5 +1,5 @@
 -- Statements, their parts and files. `most` is the greatest number of arguments, n the levels for a body.
-use Rattle.std.specs.Prelude.{◌≡◌, ℕ, Bool, true, false, if◌then◌else◌, List, [], ◌∷◌, Option, Some, None, codes}
+use Rattle.std.specs.Prelude.{◌≡◌, ℕ, Bool, true, if◌then◌else◌, List, [], ◌∷◌, Option, Some, None, codes}
 use Rattle.std.specs.Str.{bytes_eq}
 use Rattle.nxf_signs.specs.declared.sign.Sign.TheVariants as sign
 use Rattle.nxf_signs.specs.Names.{is_word}

@@ -13,7 +13,7 @@ use Rattle.tptp_lex.specs.declared.token.Lexeme.{Lexeme}
 use Rattle.tptp_lex.specs.Bytes.{punctuation}
 use Rattle.tptp_lex.specs.Shapes.{is_line_comment, is_block_comment, is_digits, IsOneOf, IsLexeme}
 use Rattle.std.proofs.Math.Seq.{drop-append_seam, take-append_seam}
-use Rattle.tptp_lex.specs.Texts.{spelling_of, IsSpelled}
+use Rattle.tptp_lex.specs.Texts.{IsSpelled}
 use Rattle.tptp_lex.specs.Lexing.{Piece, Begins, token_of, tokens_from, Lexes, IsTokenOf, IsSpan, AreSpans}
 use Rattle.tptp_lex.proofs.Punctuation.{one_passes}
 

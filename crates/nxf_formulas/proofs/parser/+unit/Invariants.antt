@@ -26,6 +26,12 @@ decreases-group l = 10 * l.left + 3
 abbrev pub decreases-inner : goal.decreases-inner
 decreases-inner l = 10 * l.left + 3
 
+abbrev pub decreases-negation : goal.decreases-negation
+decreases-negation l = 10 * l.left + 4
+
+abbrev pub decreases-plain_modal : goal.decreases-plain_modal
+decreases-plain_modal l = 10 * l.left + 4
+
 abbrev pub decreases-quantified : goal.decreases-quantified
 decreases-quantified l = 10 * l.left + 4
 

@@ -1,6 +1,5 @@
 use Rattle.std.proofs.Common.{◌∙◌, ap, refl}
 use Rattle.std.proofs.lemmas.Result.{MatchResult-weaker}
-use Rattle.nxf_tree.specs.FirstForm.{first_signature, first_problem}
 use Rattle.nxf_tree.specs.Text.{text_of}
 use Rattle.nxf_meaning.proofs.FirstProfile.{reading, first-profile}
 use Rattle.nxf_run.proofs.prepare.translate_formula.Goals as goal
