@@ -29,7 +29,7 @@ pub fn pair(alloc: Global, op: Op, left: Formula, right: Formula) -> Result<Form
 pub fn both(alloc: Global, left: Formula, right: Formula) -> Result<Formula, Memory>
     ensures { IfOk result (λ f. f ≡ And2 left right) }
 {
-    let mut parts = List::new(alloc);
+    let mut parts = List::with_capacity(alloc, 2)?;
     parts.push(left)?;
     parts.push(right)?;
     Ok(Formula::And(parts))
