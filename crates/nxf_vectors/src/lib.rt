@@ -1,0 +1,5 @@
+//! Worked cases that cross crates, as tables of texts.
+#![tactic(auto)]
+
+#[cfg(test)]
+mod specification;
