@@ -1,5 +1,5 @@
 -- The statements of a file, one after another.
-use Rattle.std.proofs.Common.{◌≡◌, ℕ, List, [], ◌∷◌, ◌++◌, Option, None, Some, Result, Ok, Err, refl, sym, ap, ◌∙◌, suc, subst}
+use Rattle.std.proofs.Common.{◌≡◌, ℕ, List, [], ◌∷◌, ◌++◌, Option, None, Some, Result, Ok, Err, refl, sym, ap, suc, subst}
 use Rattle.std.specs.Prelude.{◌⊎◌, IfSome}
 use mathlib.Core.Logic.{inl, inr}
 use Rattle.nxf_base.specs.Files.{Files}
@@ -11,7 +11,7 @@ use Rattle.nxf_tree.specs.declared.tree.Statement.TheVariants.{Annotated, Includ
 use Rattle.nxf_include.specs.Gathered.{Before, Brings, selected, Enters, Visits, Gathers}
 use Rattle.nxf_include.specs.Refusals.{Meets}
 use Rattle.nxf_include.specs.Roots.{Keeps, files_of}
-use Rattle.nxf_include.specs.Steps.{Step, Is, Then}
+use Rattle.nxf_include.specs.Steps.{Step, Then}
 use Rattle.nxf_include.specs.declared.gather_error.GatherError.{GatherError}
 use Rattle.nxf_include.specs.declared.gather_error.GatherError.TheVariants.{Deep, Memory, ReadFault}
 use Rattle.nxf_include.specs.declared.reading.Visited.{Visited}

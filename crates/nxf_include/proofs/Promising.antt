@@ -1,5 +1,5 @@
 -- What every gathered file is, one statement after another.
-use Rattle.std.proofs.Common.{◌≡◌, ℕ, ◌+◌, ◌*◌, ◌≤◌, Bool, true, false, List, [], ◌∷◌, ◌++◌, Option, None, Some, Result, Ok, Err, refl, sym, ap, ◌∙◌, subst, arith}
+use Rattle.std.proofs.Common.{◌≡◌, ℕ, ◌+◌, ◌*◌, ◌≤◌, Bool, true, false, List, [], ◌∷◌, ◌++◌, Option, None, Some, Ok, refl, sym, ap, subst, arith}
 use Rattle.std.specs.List.{filter, list_all}
 use Rattle.std.proofs.lemmas.Bool.{and_parts, and_from}
 use Rattle.nxf_signs.specs.declared.sign.Profile.TheVariants.{Problem}
@@ -7,12 +7,12 @@ use Rattle.nxf_tree.specs.declared.tree.Body.{Body}
 use Rattle.nxf_tree.specs.declared.tree.Role.{Role}
 use Rattle.nxf_tree.specs.declared.tree.Statement.{Statement}
 use Rattle.nxf_tree.specs.declared.tree.Statement.TheVariants.{Annotated}
-use Rattle.nxf_tree.specs.FileDepth.{statement_depth, statement_list_depth}
-use Rattle.nxf_tree.specs.Weight.{statement_weight, statement_list_weight}
+use Rattle.nxf_tree.specs.FileDepth.{statement_list_depth}
+use Rattle.nxf_tree.specs.Weight.{statement_list_weight}
 use Rattle.nxf_statements.specs.Regular.{is_regular_statement}
 use Rattle.nxf_grammar.specs.Profiles.{allowed_in, any_allowed, greatest_nesting}
 use Rattle.nxf_include.specs.Gathered.{selected, unless_missing, first_missing, is_listed}
-use Rattle.nxf_include.specs.Promises.{is_no_include, IsFine, IsReadStatement, IsFineStatement, AreRead, AreFine}
+use Rattle.nxf_include.specs.Promises.{is_no_include, IsFine, IsFineStatement, AreRead, AreFine}
 
 -- ---- a file that is read
 

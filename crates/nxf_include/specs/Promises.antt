@@ -1,5 +1,5 @@
 -- What every gathered file is, whatever the libraries tell.
-use Rattle.std.specs.Prelude.{ℕ, ◌≤◌, Bool, true, false, List, IsTrue}
+use Rattle.std.specs.Prelude.{◌≤◌, Bool, true, false, List, IsTrue}
 use Rattle.std.specs.List.{list_all, AllByRecursion}
 use Rattle.nxf_signs.specs.declared.sign.Profile.TheVariants.{Problem}
 use Rattle.nxf_tree.specs.declared.tree.File.{File}

@@ -1,4 +1,3 @@
-use Rattle.std.proofs.Common.{◌≡◌}
 use mathlib.Core.Logic.{inl}
 use Rattle.nxf_include.specs.Gathered.{Reads, spelled, not_lexed, not_read}
 use Rattle.nxf_include.specs.declared.gather_error.GatherError.TheVariants.{Lex, Syntax}

@@ -1,4 +1,4 @@
-use Rattle.std.proofs.Common.{◌≡◌, ◌∙◌, ap, sym, Some}
+use Rattle.std.proofs.Common.{◌∙◌, ap, sym, Some}
 use Rattle.std.specs.List.{filter}
 use Rattle.nxf_include.specs.Gathered.{is_listed}
 use Rattle.nxf_include.proofs.Selecting.{selected_ok, selected_not}

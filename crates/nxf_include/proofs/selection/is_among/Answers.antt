@@ -1,4 +1,4 @@
-use Rattle.std.proofs.Common.{◌≡◌, ◌∙◌, sym, ap}
+use Rattle.std.proofs.Common.{◌∙◌, sym, ap}
 use Rattle.nxf_include.specs.Gathered.{is_listed}
 use Rattle.nxf_include.proofs.selection.is_among.Goals as goal
 
