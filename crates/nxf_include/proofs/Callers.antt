@@ -1,9 +1,8 @@
 -- For callers: one call after another.
-use Rattle.std.proofs.Common.{◌≡◌, List, [], ◌∷◌, Option, refl, sym, ap, ◌∙◌, arith}
-use Rattle.std.specs.Prelude.{◌⊎◌}
+use Rattle.std.proofs.Common.{◌≡◌, List, [], ◌∷◌, refl, ◌∙◌, arith}
 use mathlib.Core.Logic.{inl, inr}
 use Rattle.nxf_base.specs.Shelf.{Shelf}
-use Rattle.nxf_include.specs.Roots.{Keeps, SomeFaultRose, EachMissRose, files_of, over_told}
+use Rattle.nxf_include.specs.Roots.{Keeps, SomeFaultRose, EachMissRose, files_of}
 
 -- a list that nobody asked keeps all
 pub Keeps-same : (xs : List Shelf) → Keeps xs xs

@@ -1,4 +1,10 @@
 pub mod Asked
+pub mod Bringing
 pub mod Callers
+pub mod OneGathering
 pub mod Over
+pub mod Promising
+pub mod OneFile
 pub mod Refusing
+pub mod Selecting
+pub mod Steps

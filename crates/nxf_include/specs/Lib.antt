@@ -1,3 +1,6 @@
+pub mod Gathered
 pub mod Loading
+pub mod Promises
 pub mod Refusals
 pub mod Roots
+pub mod Steps

@@ -3,6 +3,7 @@ use Rattle.std.specs.Prelude.{◌≡◌, ◌⊎◌, Option, IfSome, Result, Err}
 use Rattle.nxf_base.specs.Files.{Files}
 use Rattle.nxf_include.specs.declared.gather_error.GatherError.{GatherError}
 use Rattle.nxf_include.specs.declared.gather_error.GatherError.TheVariants.{NoFile, ReadFault, TooLong, Memory}
+use Rattle.nxf_include.specs.Steps.{Step}
 
 -- the refusals of a single load
 abbrev pub IsOfLoading : GatherError → Type 0
@@ -15,3 +16,7 @@ IsOfLoading _ = ⊥
 -- the refusal is the defined one where the files are told, or a read fault, or want of memory
 abbrev pub Refuses : {A : Type 0} → Option Files → (Files → Result A GatherError) → GatherError → Type 0
 Refuses told answer e = IfSome told (λ files. answer files ≡ Err e) ⊎ ((e ≡ ReadFault) ⊎ (e ≡ Memory))
+
+-- the result is one of the step where the files are told, or a read fault, or want of memory
+abbrev pub Meets : {A : Type 0} → Option Files → (Files → Step A) → Result A GatherError → Type 0
+Meets told Answers result = IfSome told (λ files. Answers files result) ⊎ ((result ≡ Err ReadFault) ⊎ (result ≡ Err Memory))

@@ -1,10 +1,17 @@
-//! Where a problem's files come from: a list of libraries that are asked in order, and the bytes of one file.
+//! Where a problem's files come from: a list of libraries that are asked in order, the bytes of one file, and the file that
+//! is gathered from a problem's file and all that it includes.
 #![tactic(auto)]
 
 mod gather_error;
+mod gathering;
+mod laws;
 mod loading;
+mod reading;
 mod roots;
+mod selection;
 
 pub use gather_error::GatherError;
+pub use gathering::{gather, gather_from};
+pub use laws::one_gathering;
 pub use loading::{load_one, load_one_from};
 pub use roots::{Roots, load_first};

@@ -1,0 +1,95 @@
+use Rattle.std.proofs.Common.{◌-◌, ◌∙◌, ap, sym, subst, arith, map, [], ◌∷◌}
+use Rattle.std.specs.Vec.Iter.{into_iter_items}
+use Rattle.nxf_tree.specs.Weight.{statement_list_weight}
+use Rattle.nxf_include.specs.Gathered.{Visits}
+use Rattle.nxf_include.specs.Promises.{AreRead, AreFine}
+use Rattle.nxf_include.specs.Roots.{files_of}
+use Rattle.nxf_include.proofs.Callers.{Keeps-same, Keeps-after, fault_after, misses_after}
+use Rattle.nxf_include.proofs.Bringing.{deep, begins, begins_not, met_first, adds_annotated, adds_included, refuses_included, refuses_selected, ends}
+use Rattle.nxf_include.proofs.Promising.{annotated_fine, rest_read, annotated_weight, included_fine, included_weight}
+use Rattle.nxf_include.proofs.Selecting.{none_left}
+use Rattle.nxf_include.proofs.gathering.+visit.Goals as goal
+
+pub returns-then-levels-eq0-clause-answers : goal.returns-then-levels-eq0-clause-answers
+returns-then-levels-eq0-clause-answers g t c =
+    deep (files_of (map g.L.Library.shelf c.args.libraries.now)) c.args.levels c.args.sum c.args.name.now c.deep.result (omega (arith, c.if-levels-eq0.true)) c.deep.ensures
+
+pub returns-then-levels-eq0-clause-keeps : goal.returns-then-levels-eq0-clause-keeps
+returns-then-levels-eq0-clause-keeps g t c = Keeps-same _
+
+pub returns-in-Err-clause-answers : goal.returns-in-Err-clause-answers
+returns-in-Err-clause-answers g t c =
+    begins_not (files_of (map g.L.Library.shelf c.args.libraries.now)) c.args.levels (c.args.levels - 1) c.args.sum c.args.name.now c.in-Err.error (omega (arith, c.if-levels-eq0.false)) c.in-Err.ensures.answers
+
+pub loop-statement-init : goal.loop-statement-init
+loop-statement-init g t c =
+    let all = c.into_iter-statement-iterator.ensures.into_iter_gives.0 ∙ c.into_vec-statement-items.ensures in (
+      tt,
+      tt,
+      begins (files_of (map g.L.Library.shelf c.args.libraries.now)) c.args.levels (c.args.levels - 1) c.args.sum c.args.name.now c.in-Ok.file c.new-statements.result _ (omega (arith, c.if-levels-eq0.false)) c.new-statements.ensures all c.in-Ok.ensures.answers,
+      c.in-Ok.ensures.keeps,
+      subst AreFine (sym c.new-statements.ensures) tt,
+      subst AreRead (sym all) c.in-Ok.ensures.read,
+      omega (arith, c.in-Ok.ensures.counts.1, ap statement_list_weight c.new-statements.ensures, ap statement_list_weight all),
+      c.in-Ok.ensures.counts.0,
+    )
+
+pub returns-in-Err-visit-clause-answers : goal.returns-in-Err-visit-clause-answers
+returns-in-Err-visit-clause-answers g t c =
+    refuses_included _ (c.args.levels - 1) c.loop-statement.statements c.loop-statement.sum _ _ _ _ (files_of (map g.L.Library.shelf c.args.libraries.now)) c.in-Err-visit.error c.loop-statement.invariant.2
+    (c.in-Some.ensures.steps.0 ∙ ap (λ s. s ∷ into_iter_items c.next.new.self) c.in-Include.is)
+    (met_first _ _ (λ files. Visits files (c.args.levels - 1) c.loop-statement.sum c.in-Include.file) _ c.loop-statement.invariant.3 c.in-Err-visit.ensures.answers)
+
+pub returns-in-Err-visit-clause-no_file : goal.returns-in-Err-visit-clause-no_file
+returns-in-Err-visit-clause-no_file g t c missing is = misses_after _ _ _ c.loop-statement.invariant.3 (c.in-Err-visit.ensures.no_file missing is)
+
+pub returns-in-Err-visit-clause-read_fault : goal.returns-in-Err-visit-clause-read_fault
+returns-in-Err-visit-clause-read_fault g t c is = fault_after _ _ _ c.loop-statement.invariant.3 (c.in-Err-visit.ensures.read_fault is)
+
+pub returns-in-Err-visit-clause-keeps : goal.returns-in-Err-visit-clause-keeps
+returns-in-Err-visit-clause-keeps g t c = Keeps-after _ _ _ c.loop-statement.invariant.3 c.in-Err-visit.ensures.keeps
+
+pub returns-in-Err-add_selected-clause-answers : goal.returns-in-Err-add_selected-clause-answers
+returns-in-Err-add_selected-clause-answers g t c =
+    refuses_selected _ (c.args.levels - 1) c.loop-statement.statements c.loop-statement.sum _ _ _ _ (files_of (map g.L.Library.shelf c.args.libraries.now)) c.in-Ok-visit.part c.in-Err-add_selected.error c.loop-statement.invariant.2
+    (c.in-Some.ensures.steps.0 ∙ ap (λ s. s ∷ into_iter_items c.next.new.self) c.in-Include.is)
+    (met_first _ _ (λ files. Visits files (c.args.levels - 1) c.loop-statement.sum c.in-Include.file) _ c.loop-statement.invariant.3 c.in-Ok-visit.ensures.answers)
+    c.in-Err-add_selected.ensures
+
+pub returns-in-Err-add_selected-clause-keeps : goal.returns-in-Err-add_selected-clause-keeps
+returns-in-Err-add_selected-clause-keeps g t c = Keeps-after _ _ _ c.loop-statement.invariant.3 c.in-Ok-visit.ensures.keeps
+
+pub loop-statement-preserved-in-Include : goal.loop-statement-preserved-in-Include
+loop-statement-preserved-in-Include g t c =
+    let kept = c.in-Ok-add_selected.ensures in
+    let rest = into_iter_items c.next.new.self in
+    let next = c.in-Some.ensures.steps.0 ∙ ap (λ s. s ∷ rest) c.in-Include.is in (
+      tt,
+      tt,
+      adds_included _ (c.args.levels - 1) c.loop-statement.statements c.loop-statement.sum _ _ _ _ (files_of (map g.L.Library.shelf c.args.libraries.now)) c.in-Ok-visit.part kept.0 _ c.loop-statement.invariant.2
+          next (met_first _ _ (λ files. Visits files (c.args.levels - 1) c.loop-statement.sum c.in-Include.file) _ c.loop-statement.invariant.3 c.in-Ok-visit.ensures.answers) kept.1 kept.2,
+      Keeps-after _ _ _ c.loop-statement.invariant.3 c.in-Ok-visit.ensures.keeps,
+      included_fine _ _ c.in-Ok-visit.part.statements c.loop-statement.statements _ kept.0 kept.1 kept.2 c.loop-statement.invariant.4 c.in-Ok-visit.ensures.fine,
+      rest_read _ rest _ next c.loop-statement.invariant.5,
+      included_weight _ _ c.args.sum c.loop-statement.sum c.in-Ok-visit.part.sum c.in-Ok-visit.part.statements c.loop-statement.statements _ kept.0 _ rest _ kept.1 kept.2 next c.in-Ok-visit.ensures.counts.1 c.loop-statement.invariant.6,
+      c.in-Ok-visit.ensures.counts.0,
+    )
+
+pub loop-statement-preserved : goal.loop-statement-preserved
+loop-statement-preserved g t c =
+    let rest = into_iter_items c.next.new.self in
+    let next = c.in-Some.ensures.steps.0 ∙ ap (λ s. s ∷ rest) c.in-Annotated.is in (
+      tt,
+      tt,
+      adds_annotated _ (c.args.levels - 1) c.loop-statement.statements c.loop-statement.sum _ _ (files_of (map g.L.Library.shelf c.args.libraries.now)) _ _ _ _ c.loop-statement.invariant.2 next c.in-Ok-add.ensures,
+      c.loop-statement.invariant.3,
+      annotated_fine c.loop-statement.statements _ _ rest _ _ _ c.in-Ok-add.ensures next c.loop-statement.invariant.4 c.loop-statement.invariant.5,
+      rest_read _ rest _ next c.loop-statement.invariant.5,
+      annotated_weight c.args.sum c.loop-statement.sum c.loop-statement.statements _ _ rest _ c.in-Ok-add.ensures next c.loop-statement.invariant.6,
+      c.loop-statement.invariant.7,
+    )
+
+pub returns-clause-answers : goal.returns-clause-answers
+returns-clause-answers g t c =
+    ends _ (c.args.levels - 1) c.loop-statement.statements c.loop-statement.sum _ [] (files_of (map g.L.Library.shelf c.args.libraries.now)) c.loop-statement.invariant.2
+    (none_left _ (omega (arith, c.loop-statement.statement-iterator.rest.ok, c.in-None.ensures.steps.0)))
