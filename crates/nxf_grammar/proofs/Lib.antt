@@ -1,2 +1,4 @@
 pub mod ExactFiles
 pub mod FineFiles
+pub mod LevelsOfTrees
+pub mod ReadLevels

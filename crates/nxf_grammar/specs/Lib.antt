@@ -1,3 +1,4 @@
 pub mod Files
+pub mod Levels
 pub mod Profiles
 pub mod Spells

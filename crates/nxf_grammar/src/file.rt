@@ -12,6 +12,7 @@ ghost use Rattle.nxf_statements.specs.Statements.{IsStatement};
 ghost use Rattle.nxf_statements.specs.ReadStatements.{read_statement};
 ghost use Rattle.nxf_grammar.specs.Files as spec;
 ghost use Rattle.nxf_grammar.specs.Files.{AreRead, Explains};
+ghost use Rattle.nxf_grammar.specs.Levels.{file_levels};
 ghost use Rattle.nxf_grammar.specs.Profiles as profiles;
 ghost use Rattle.nxf_tree.specs.FileDepth.{file_depth};
 ghost use Rattle.nxf_tree.specs.Weight.{file_weight};
@@ -176,6 +177,7 @@ pub fn read_file(
     ensures read { IfOk result (λ f. TokensSpell profile bytes.now tokens.now f) }
     ensures refused { IfErr result (λ e. IsCause profile bytes.now tokens.now e) }
     ensures depth { IfOk result (λ f. file_depth f ≤ 2 * profiles.greatest_nesting profile + 1) }
+    ensures levels { IfOk result (λ f. file_levels f ≤ profiles.levels_of profile) }
     ensures weight { IfOk result (λ f. file_weight f ≤ length tokens.now) }
     ensures regular { IfOk result (λ f. IsRegular profiles.any_allowed f) }
     ensures allowed { IfOk result (λ f. IsRegular (profiles.allowed_in profile) f) }

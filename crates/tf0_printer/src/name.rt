@@ -1,5 +1,8 @@
 //! Names, bare or in quotes.
-ghost use Rattle.std.specs.Prelude.{◌≡◌, ◌++◌, flat_map, IfOk, OnOk};
+ghost use Rattle.std.specs.Prelude.{◌≡◌, ◌↔◌, ◌++◌, flat_map, IfOk, OnOk, IsTrue};
+ghost use Rattle.nxf_signs.specs.declared.sign.Profile.{Profile};
+ghost use Rattle.nxf_signs.specs.Spelled.{is_printable_text};
+ghost use Rattle.tf0_printer.specs.SpelledNames.{SpellsName};
 ghost use Rattle.std.specs.List.{list_all};
 ghost use Rattle.nxf_tree.specs.Text as spec;
 ghost use Rattle.nxf_tree.specs.Text.{name_text, sort_text, escaped_byte};
@@ -9,11 +12,13 @@ use nxf_base::{Memory, Text};
 use nxf_tree::SortName;
 use std::alloc::Global;
 
-/// The spelling of a name: bare where it is a word of a letter from `a` to `z`, then letters, digits and `_`; else in single
-/// quotes, with `\` before `'` and `\`. It is a name of TPTP where the name has one byte or more, all from 32 to 126. There is
-/// no other error than want of memory.
+/// The spelling of a name: bare exactly where it is a word of a letter from `a` to `z`, then letters, digits and `_`; else in
+/// single quotes, with `\` before `'` and `\`. Where the name has one byte or more, all from 32 to 126, the spelling is one token,
+/// which the grammar reads as this name. There is no other error than want of memory.
 pub fn print_name(alloc: Global, name: &Text) -> Result<Vec<u8>, Memory>
-    ensures { IfOk result (λ text. text.items ≡ name_text name.now) }
+    ensures text { IfOk result (λ text. text.items ≡ name_text name.now) }
+    ensures bare { IfOk result (λ text. (text.items ≡ name.now) ↔ IsTrue (spec.is_bare name.now)) }
+    ensures spells { (p : Profile) → IsTrue (is_printable_text name.now) → IfOk result (λ text. SpellsName p text.items name.now) }
 {
     let mut out = Vec::new(alloc);
     write_name(&mut out, name)?;

@@ -1,6 +1,11 @@
 //! Statements, and whole files.
-ghost use Rattle.std.specs.Prelude.{◌≡◌, ◌++◌, flat_map, codes, IfOk, OnOk, IsTrue};
-ghost use Rattle.std.specs.List.{join_by};
+ghost use Rattle.std.specs.Prelude.{◌≡◌, ◌≤◌, ◌++◌, false, flat_map, codes, IfOk, OnOk, IsTrue};
+ghost use Rattle.std.specs.List.{join_by, list_all};
+ghost use Rattle.nxf_signs.specs.declared.sign.Profile.{Profile};
+ghost use Rattle.nxf_statements.specs.Regular.{IsRegular};
+ghost use Rattle.nxf_grammar.specs.Levels.{file_levels};
+ghost use Rattle.nxf_grammar.specs.Profiles.{allowed_in, has_modalities, levels_of};
+ghost use Rattle.nxf_grammar.specs.Spells.{Spells};
 ghost use Rattle.nxf_tree.specs.Text.{text_of, is_printable, has_text, body_has_text, suffix_text, statement_text, chosen_text, body_text, role_text, typing_text, type_text, result_text, sort_text, name_text};
 
 use crate::formula::write_formula;
@@ -9,17 +14,27 @@ use nxf_base::{List, Memory, Text};
 use nxf_tree::{Body, File, Role, SortName, Statement, Typing};
 use std::alloc::Global;
 
-/// The text of a file without logic statements: a line for each statement. What a printed problem has is in the syntax of TPTP's
-/// TF0; modalities and includes have the text that NXF has for them. There is no other error than want of memory.
+/// The text of a file without logic statements: a line for each statement, in the syntax of TPTP's TF0; modalities and includes
+/// have the text that NXF has for them. In a profile without modalities in which the file is regular, and which has the levels
+/// that the file needs, the text spells the file. There is no other error than want of memory.
 pub fn print_file(alloc: Global, file: &File) -> Result<Vec<u8>, Memory>
     requires printable { IsTrue (is_printable file.now) }
-    ensures { IfOk result (λ text. text.items ≡ text_of file.now) }
+    ensures text { IfOk result (λ text. text.items ≡ text_of file.now) }
+    ensures spells { (p : Profile) → has_modalities p ≡ false → IsRegular (allowed_in p) file.now → file_levels file.now ≤ levels_of p → IfOk result (λ text. Spells p text.items file.now) }
 {
     let mut out = Vec::new(alloc);
-    for statement in file.statements.as_slice() {
-        write_statement(&mut out, statement)?;
-    }
+    write_statements(&mut out, file.statements.as_slice())?;
     Ok(out)
+}
+
+fn write_statements(out: &mut Vec<u8>, statements: &[Statement]) -> Result<(), Memory>
+    requires { IsTrue (list_all has_text statements.now) }
+    ensures { OnOk result (out.new.items ≡ out.old.items ++ flat_map statement_text statements.now) }
+{
+    for statement in statements {
+        write_statement(out, statement)?;
+    }
+    Ok(())
 }
 
 fn write_statement(out: &mut Vec<u8>, statement: &Statement) -> Result<(), Memory>

@@ -1,0 +1,4 @@
+pub mod PrintedNames
+pub mod PrintedFormulas
+pub mod PrintedAxioms
+pub mod PrintedStatements
