@@ -1,6 +1,6 @@
 -- The overrides of a file's logic statement are those of its specification.
 use Rattle.std.proofs.Common.{◌≡◌, ℕ, suc, List, [], ◌∷◌, ◌++◌, refl, sym, ap, ◌∙◌}
-use Rattle.std.specs.Prelude.{flat_map, Option, None, Some, Result, Ok, Err}
+use Rattle.std.specs.Prelude.{flat_map, Option, None, Some, Ok}
 use Rattle.nxf_base.specs.declared.status.SpecKind.{SpecKind}
 use Rattle.nxf_tree.specs.declared.tree.Override.{Override}
 use Rattle.nxf_tree.specs.declared.tree.Typing.TheVariants.{Individual as IsIndividual, Sort, Symbol}

@@ -1,24 +1,22 @@
 -- What the walk over a file has seen is what the definitions say: each thing once, in the order of first occurrence.
 use Rattle.std.proofs.Common.{◌≡◌, ℕ, Bool, true, false, cond, List, [], ◌∷◌, ◌++◌, refl, sym, ap, ◌∙◌, append_assoc, append-nil}
-use Rattle.std.specs.Prelude.{◌&&◌, ◌||◌, not, if◌then◌else◌, map, filter, flat_map, Option, None, Some}
-use Rattle.std.specs.Option.{unwrap_or}
+use Rattle.std.specs.Prelude.{◌&&◌, ◌||◌, not, if◌then◌else◌, map, filter, Some}
 use Rattle.std.specs.List.{list_any}
 use Rattle.std.proofs.lemmas.List.Folds.{list_any-append}
-use Rattle.indexmap.specs.IndexSet.{insert_key, insert_all}
+use Rattle.indexmap.specs.IndexSet.{insert_all}
 use Rattle.nxf_tree.specs.declared.tree.IndexName.{IndexName}
 use Rattle.nxf_tree.specs.declared.tree.IndexName.TheVariants.{Plain, Named}
-use Rattle.nxf_tree.specs.declared.tree.SortName.{SortName}
-use Rattle.nxf_tree.specs.declared.tree.SortName.TheVariants.{Individual, User}
+use Rattle.nxf_tree.specs.declared.tree.SortName.TheVariants.{Individual}
 use Rattle.nxf_tree.specs.Names.{same_text}
 use Rattle.nxf_tree.specs.Counting.{has}
 use Rattle.nxf_tree.specs.Signature.{same_sort, same_index}
 use Rattle.nxf_tree.specs.Occurrences.{Use, Occurrence, uses, sorts, indexes}
 use Rattle.nxf_tree.specs.SignatureOf.{firsts, same_symbol, type_in, typed, is_named}
 use Rattle.nxf_meaning.proofs.Bounds.{and-true}
-use Rattle.nxf_meaning.proofs.Spelling.{same_text-true, true-false}
+use Rattle.nxf_meaning.proofs.Spelling.{same_text-true}
 use Rattle.nxf_meaning.proofs.Firsts.{split_bool}
 use Rattle.nxf_meaning.proofs.ProfileLaw.{same_text-sym}
-use Rattle.nxf_names.specs.Tables.{Seen, nothing, and_occurrence, and_occurrences}
+use Rattle.nxf_names.specs.Tables.{Seen, and_occurrence, and_occurrences}
 
 module _ {X : Type 0} where
   filter-both_step : (p : X → Bool) (x : X) (xs ys : List X) (a b : Bool) → p x ≡ a → filter p xs ≡ ys

@@ -1,18 +1,17 @@
 -- The places of names, as the tables give them.
-use Rattle.std.proofs.Common.{◌≡◌, ℕ, ◌+◌, ◌<◌, Bool, true, false, cond, List, [], ◌∷◌, length, Option, None, Some, refl, sym, ap, ◌∙◌, arith}
-use Rattle.std.specs.Prelude.{zero, suc, map, position, slice_get, if◌then◌else◌}
+use Rattle.std.proofs.Common.{◌≡◌, ℕ, ◌+◌, Bool, true, false, cond, List, [], ◌∷◌, length, Option, None, Some, refl, sym, ap, ◌∙◌, arith}
+use Rattle.std.specs.Prelude.{zero, suc, ◌||◌, map, position, slice_get, if◌then◌else◌}
 use Rattle.nxf_tree.specs.declared.tree.SymbolEntry.{SymbolEntry}
 use Rattle.nxf_meaning.proofs.ProfileLaw.{same_text-sym}
-use Rattle.std.specs.List.{position_from, position_or_len}
+use Rattle.std.specs.List.{list_any, position_from, position_or_len}
+use Rattle.nxf_tree.specs.Counting.{has}
 use Rattle.std.specs.Option.{option_map, unwrap_or}
 use Rattle.std.proofs.lemmas.Iterator.Adapters.{position_from-zero}
 use Rattle.std.proofs.lemmas.List.Recursion.{is_position_or_len}
 use Rattle.nxf_tree.specs.declared.tree.IndexName.TheVariants.{Plain, Named}
-use Rattle.nxf_tree.specs.declared.tree.SortName.{SortName}
 use Rattle.nxf_tree.specs.declared.tree.SortName.TheVariants.{Individual, User}
 use Rattle.nxf_tree.specs.Names.{same_text}
 use Rattle.nxf_tree.specs.Signature.{same_sort, same_index, symbol_names}
-use Rattle.nxf_tree.specs.SignatureOf.{sort_number}
 use Rattle.nxf_names.specs.Places.{place, shifted, sort_list, index_list, numbered_entry}
 
 module _ {A : Type 0} (p : A → Bool) where
@@ -130,3 +129,12 @@ entry_absent (entry ∷ entries) f h =
     by true o r next h = absurd cc
     by false None r next h = ap (found false entry) (next refl)
     by false (Some j) r next h = absurd cc
+
+-- a user's sort is in the list where its text is
+users_have : (x : List ℕ) (texts : List (List ℕ)) → list_any (same_text x) texts ≡ has same_sort (User x) (map User texts)
+users_have x [] = refl
+users_have x (t ∷ texts) = λ i. same_text-sym x t i || users_have x texts i
+
+pub sort_there : (b : Bool) (x : List ℕ) (texts : List (List ℕ)) → list_any (same_text x) texts ≡ has same_sort (User x) (sort_list b texts)
+sort_there true x texts = users_have x texts
+sort_there false x texts = users_have x texts

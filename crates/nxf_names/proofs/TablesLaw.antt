@@ -1,5 +1,5 @@
 -- The tables of a file hold what the definitions say.
-use Rattle.std.proofs.Common.{◌≡◌, ℕ, Bool, true, false, List, [], ◌∷◌, ◌++◌, refl, sym, ap, ◌∙◌}
+use Rattle.std.proofs.Common.{◌≡◌, ℕ, List, [], ◌∷◌, refl, sym, ap, ◌∙◌}
 use Rattle.std.specs.Prelude.{◌||◌, if◌then◌else◌, map, filter}
 use Rattle.std.specs.Option.{unwrap_or}
 use Rattle.std.specs.List.{list_any}
@@ -20,11 +20,10 @@ use Rattle.nxf_tree.specs.Counting.{has}
 use Rattle.nxf_tree.specs.Signature.{same_sort, same_index, sort_names, symbol_names, index_names}
 use Rattle.nxf_tree.specs.Sorting.{SymbolType}
 use Rattle.nxf_tree.specs.Specification.{Specification}
-use Rattle.nxf_tree.specs.Occurrences.{Use, Occurrence, uses, sorts, indexes, declared, declared_sorts, occurrences_in}
-use Rattle.nxf_tree.specs.SignatureOf.{firsts, same_symbol, type_in, typed, symbols_of, mentions_individual, has_individual, sorts_of_file, is_named, indexes_of_file, symbol_entry}
+use Rattle.nxf_tree.specs.Occurrences.{Use, Occurrence, uses, indexes, declared, declared_sorts, occurrences_in}
+use Rattle.nxf_tree.specs.SignatureOf.{firsts, same_symbol, type_in, typed, symbols_of, mentions_individual, has_individual, is_named, symbol_entry}
 use Rattle.nxf_names.specs.declared.tables.Tables.{Tables}
 use Rattle.nxf_names.specs.Tables.{uses_in, sort_texts, Seen, nothing, and_occurrences, seen_in}
-use Rattle.nxf_names.specs.Places.{sort_list, index_list}
 use Rattle.nxf_names.specs.TablesOf.{AreTablesOf}
 use Rattle.nxf_names.proofs.Noted.{texts_noted, symbols_noted, firsts-mapped, type_first, texts_of, seen_symbols, seen_individual, seen_plain, seen_indexes, named_texts}
 

@@ -1,10 +1,10 @@
 -- What occurs in terms and formulas, by the lists of their parts.
-use Rattle.std.proofs.Common.{◌≡◌, ℕ, ◌+◌, List, [], ◌∷◌, ◌++◌, length, refl, ap, sym, ◌∙◌, arith, append_assoc}
+use Rattle.std.proofs.Common.{◌≡◌, ℕ, ◌+◌, List, [], ◌∷◌, ◌++◌, length, refl, ap, ◌∙◌, arith}
 use Rattle.std.specs.Prelude.{zero, suc, map, flat_map, Some, None, OnOk, Result, Ok, Err}
 use Rattle.nxf_tree.specs.declared.tree.SortName.TheVariants.{Individual}
 use Rattle.nxf_tree.specs.declared.tree.Term.{Term, App, Row_of-Term, end_of-Term, more_of-Term}
 use Rattle.nxf_tree.specs.declared.tree.Term.TheBlock.{hidden-the_row-Term-0, items-the_row-Term, items_hidden-the_row-Term-0}
-use Rattle.nxf_tree.specs.declared.tree.Formula.{Formula, Atom, Same, Differ, Distinct, And, Or, Row_of-Formula, end_of-Formula, more_of-Formula}
+use Rattle.nxf_tree.specs.declared.tree.Formula.{Formula, Atom, Same, And, Or, Row_of-Formula, end_of-Formula, more_of-Formula}
 use Rattle.nxf_tree.specs.declared.tree.Formula.TheBlock.{hidden-the_row-Formula-1, items-the_row-Formula, items_hidden-the_row-Formula-1}
 use Rattle.nxf_tree.specs.Occurrences.{Occurrence, Use, individuals, use_with, row_length, term_uses, row_uses, terms_uses, occurrences, row_occurrences}
 use Rattle.nxf_names.specs.Tables.{term_occurrences}

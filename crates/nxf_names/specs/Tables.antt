@@ -1,8 +1,6 @@
 -- What the tables of names hold.
 use Rattle.std.specs.Prelude.{ℕ, Bool, true, false, ◌||◌, List, [], ◌∷◌, map, flat_map, fold, Option, None, Some}
-use Rattle.std.specs.Option.{unwrap_or}
 use Rattle.indexmap.specs.IndexSet.{insert_key}
-use Rattle.nxf_tree.specs.declared.tree.IndexName.{IndexName}
 use Rattle.nxf_tree.specs.declared.tree.IndexName.TheVariants.{Plain, Named}
 use Rattle.nxf_tree.specs.declared.tree.SortName.{SortName}
 use Rattle.nxf_tree.specs.declared.tree.SortName.TheVariants.{Individual}

@@ -2,6 +2,7 @@
 
 ghost use Rattle.std.specs.Prelude.{◌≡◌, IfOk, Ok, is_some};
 ghost use Rattle.std.specs.Option.{option_map};
+ghost use Rattle.nxf_tree.specs.Counting.{has};
 ghost use Rattle.nxf_tree.specs.Signature.{same_sort, same_index, sort_names, index_names};
 ghost use Rattle.nxf_tree.specs.Occurrences.{declared};
 ghost use Rattle.nxf_tree.specs.SignatureOf.{firsts, same_symbol, signature_of, type_in};
@@ -85,6 +86,13 @@ impl Names {
             sort,
         )?;
         Some(number as u32)
+    }
+
+    /// Whether a user's sort has the name.
+    pub fn has_sort(&self, name: &Text) -> bool
+        ensures { result ≡ has same_sort (SortName.User name.now) (sort_names self.now.signature.sorts) }
+    {
+        self.tables.declarations.has_sort(name)
     }
 
     /// The number of an index.
