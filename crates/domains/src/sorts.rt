@@ -12,7 +12,9 @@ use std::alloc::Global;
 
 // the worlds and the element that an axiom speaks of
 const W: u64 = 0;
+
 const V: u64 = 1;
+
 const X: u64 = 0;
 
 /// At each world some element exists.

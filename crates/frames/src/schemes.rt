@@ -10,8 +10,11 @@ use std::alloc::Global;
 
 // the worlds that an axiom speaks of
 const W: u64 = 0;
+
 const V: u64 = 1;
+
 const U: u64 = 2;
+
 const X: u64 = 3;
 
 /// The axiom of a scheme for an index.

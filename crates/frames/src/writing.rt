@@ -26,11 +26,7 @@ pub fn axioms(alloc: Global, signature: &Signature) -> Result<List<Formula>, Mem
 }
 
 /// Adds the axioms of one index.
-fn add_axioms(
-    alloc: Global,
-    index: &IndexEntry,
-    made: &mut List<Formula>,
-) -> Result<(), Memory>
+fn add_axioms(alloc: Global, index: &IndexEntry, made: &mut List<Formula>) -> Result<(), Memory>
     ensures { OnOk result (made.new ≡ made.old ++ map (frame_axiom index.now.name) index.now.schemes) }
 {
     for scheme in index.schemes.as_slice() {
