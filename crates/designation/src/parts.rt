@@ -1,5 +1,5 @@
 //! The parts of the axiom of a function: its value, the guards of its arguments, and the quantifiers over them.
-ghost use Rattle.std.specs.Prelude.{◌≡◌, map, IfOk, IsTrue};
+ghost use Rattle.std.specs.Prelude.{◌≡◌, ◌∷◌, [], ◌++◌, if◌then◌else◌, map, IfOk, OnOk, IsTrue};
 ghost use Rattle.std.specs.List.{list_all};
 ghost use Rattle.nxf_tree.specs.Axioms as meant;
 ghost use Rattle.nxf_tree.specs.Embedding.{at_world};
@@ -11,7 +11,7 @@ ghost use Rattle.designation.specs.Listed.{elements_upto, value_term, value_of};
 use nxf_base::{List, Memory};
 use nxf_tree::{Formula, Signature, SortName, SymbolEntry, Term};
 use signature_parts::{
-    element, exists_at, existence_name, for_each_element, implies, is_constant,
+    element, existence_name, exists_at, for_each_element, implies, is_constant,
     is_flexible_designation, sort_at, two_terms, user_name, world,
 };
 use std::alloc::Global;
@@ -20,11 +20,7 @@ use std::alloc::Global;
 const W: u64 = 0;
 
 /// The atom that says that the function's value exists.
-pub fn value_exists(
-    alloc: Global,
-    symbol: &SymbolEntry,
-    sort: &SortName,
-) -> Result<Formula, Memory>
+pub fn value_exists(alloc: Global, symbol: &SymbolEntry, sort: &SortName) -> Result<Formula, Memory>
     ensures { IfOk result (λ f. f ≡ value_of symbol.now sort.now) }
 {
     let value = value(alloc, symbol)?;
@@ -38,7 +34,11 @@ fn value(alloc: Global, symbol: &SymbolEntry) -> Result<Term, Memory>
     ensures { IfOk result (λ t. t ≡ value_term symbol.now) }
 {
     let name = user_name(alloc, &symbol.name)?;
-    let terms = row_terms(alloc, is_flexible_designation(symbol.designation), symbol.args.len())?;
+    let terms = row_terms(
+        alloc,
+        is_flexible_designation(symbol.designation),
+        symbol.args.len(),
+    )?;
     Ok(Term::App(name, terms))
 }
 
@@ -46,13 +46,22 @@ fn value(alloc: Global, symbol: &SymbolEntry) -> Result<Term, Memory>
 fn row_terms(alloc: Global, flexible: bool, count: usize) -> Result<List<Term>, Memory>
     ensures { IfOk result (λ terms. terms ≡ at_world flexible (meant.world 0) (elements_upto 0 count)) }
 {
-    let mut terms = List::new(alloc);
-    if flexible {
-        terms.push(world(alloc, W)?)?;
-    }
+    let mut terms = front(alloc, flexible)?;
     for number in 0..count {
         terms.push(element(alloc, number as u64)?)?;
     }
+    Ok(terms)
+}
+
+/// The world where the function depends on it, else nothing.
+fn front(alloc: Global, flexible: bool) -> Result<List<Term>, Memory>
+    ensures { IfOk result (λ terms. terms ≡ at_world flexible (meant.world 0) []) }
+{
+    if !flexible {
+        return Ok(List::new(alloc));
+    }
+    let mut terms = List::new(alloc);
+    terms.push(world(alloc, W)?)?;
     Ok(terms)
 }
 
@@ -68,19 +77,32 @@ pub fn row_guards(
 {
     let mut guards = List::new(alloc);
     for (place, number) in sorts.iter().enumerate() {
-        if !is_constant(signature, *number) {
-            guards.push(exists_at(alloc, sort_at(signature, *number), W, place as u64)?)?;
-        }
+        add_guard(alloc, signature, *number, place as u64, &mut guards)?;
     }
     Ok(guards)
 }
 
-/// A formula under its guards: one stands alone, several are joined.
-pub fn under_guards(
+/// Adds the guard of an element of the sort with the number, unless the sort is constant.
+fn add_guard(
     alloc: Global,
-    guards: List<Formula>,
-    body: Formula,
-) -> Result<Formula, Memory>
+    signature: &Signature,
+    number: u32,
+    place: u64,
+    guards: &mut List<Formula>,
+) -> Result<(), Memory>
+    requires well_formed { IsWellFormed signature.now }
+    requires in_range { IsTrue (in_range signature.now.sorts number) }
+    ensures { OnOk result (guards.new ≡ guards.old ++ (if signatures.is_constant signature.now (signatures.sort_at signature.now.sorts number) then [] else meant.exists_at (signatures.sort_at signature.now.sorts number) 0 place ∷ [])) }
+{
+    if is_constant(signature, number) {
+        return Ok(());
+    }
+    guards.push(exists_at(alloc, sort_at(signature, number), W, place)?)?;
+    Ok(())
+}
+
+/// A formula under its guards: one stands alone, several are joined.
+pub fn under_guards(alloc: Global, guards: List<Formula>, body: Formula) -> Result<Formula, Memory>
     ensures { IfOk result (λ f. f ≡ meant.under_guards guards body) }
 {
     if guards.len() > 1 {
