@@ -1,0 +1,2 @@
+pub mod NamedForm
+pub mod Checked
