@@ -1,0 +1,8 @@
+//! The conditions on which elements exist at which worlds, as axioms of classical logic. There is no other error than want
+//! of memory.
+#![tactic(auto)]
+
+mod sorts;
+mod writing;
+
+pub use writing::axioms;

@@ -1,0 +1,5 @@
+pub mod Options
+pub mod Measures
+pub mod Rows
+pub mod TermCases
+pub mod FormCases

@@ -1,0 +1,21 @@
+-- Values that are made of parts, where they are there.
+use Rattle.std.proofs.Common.{◌≡◌, refl, sym, subst}
+use Rattle.std.specs.Prelude.{Option, None, Some, Result, IfOk}
+use Rattle.std.proofs.lemmas.Result.{IfOk-weaker}
+use Rattle.std.specs.Option.{option_map}
+use Rattle.nxf_sorts.specs.NamedForm.{both}
+
+module _ {A B P : Type 0} where
+  pub mapped : (f : A → B) (o : Option A) (y : B) → option_map f o ≡ Some y → ((x : A) → o ≡ Some x → f x ≡ y → P) → P
+  mapped f None y h k = absurd cc
+  mapped f (Some x) y h k = k x refl cc
+
+module _ {A B C P : Type 0} where
+  pub joined : (f : A → B → C) (a : Option A) (b : Option B) (z : C) → both f a b ≡ Some z → ((x : A) (y : B) → a ≡ Some x → b ≡ Some y → f x y ≡ z → P) → P
+  joined f None b z h k = absurd cc
+  joined f (Some x) None z h k = absurd cc
+  joined f (Some x) (Some y) z h k = k x y refl refl cc
+
+-- what holds of the value that a call makes
+pub made : {X Y : Type 0} (r : Result X Y) (g : X) (P : X → Type 0) → IfOk r (λ f. f ≡ g) → P g → IfOk r P
+made r g P h p = IfOk-weaker r (λ f. f ≡ g) P (λ f e. subst P (sym e) p) h

@@ -1,0 +1,400 @@
+//! The translation of formulas.
+ghost use Rattle.std.specs.Prelude.{◌≡◌, ℕ, List, [], ◌∷◌, ◌++◌, IfOk, OnOk};
+ghost use Rattle.nxf_tree.specs.Embedding.{guarded, over_worlds};
+ghost use Rattle.nxf_tree.specs.Names as spelled;
+ghost use Rattle.nxf_tree.specs.Shapes.{Quant1};
+ghost use Rattle.nxf_tree.specs.Signature.{constant_regime};
+ghost use Rattle.nxf_tree.specs.WellFormed.{HasDifferentNames};
+ghost use Rattle.nxf_tree.specs.declared.tree.Formula.{Atom};
+ghost use Rattle.nxf_tree.specs.declared.tree.Term.{Var};
+ghost use Rattle.nxf_sorts.specs.declared.node.Node as spec;
+ghost use Rattle.nxf_translate.specs.Forms.{HasForm, HasForms, HasTerms, IsForm, AreForms, IsEmbedded};
+ghost use Rattle.nxf_translate.specs.Place.{term_of};
+
+use crate::place::{Place, place_term};
+use crate::terms::{front, translate_term, translate_terms};
+use nxf_base::{List, Memory, Text};
+use nxf_sorts::{NTerm, Node};
+use nxf_tree::{
+    Formula, IndexName, Mode, Op, Quantifier, Scope, Signature, SortEntry, Term, both, negated,
+    pair, quantified,
+};
+use signature_parts::{
+    existence_name, is_constant_regime, relation_name, two_terms, user_name, user_sort,
+    user_variable, world_sort, world_variable,
+};
+use std::alloc::Global;
+
+/// The translation of a formula at a world. `binders` are the variables of the enclosing quantifiers from the outside in,
+/// and stay as they are; `next` is the number of the next variable for a world.
+#[cycle(translate)]
+fn translate(
+    alloc: Global,
+    signature: &Signature,
+    binders: &mut Vec<Text>,
+    place: Place,
+    next: u64,
+    node: &Node,
+) -> Result<Formula, Memory>
+    requires different { HasDifferentNames signature.now }
+    requires named { HasForm signature.now binders.old.items node.now }
+    ensures translated { IfOk result (IsForm signature.now binders.old.items (term_of place) next node.now) }
+    ensures kept { OnOk result (binders.new.items ≡ binders.old.items) }
+{
+    match node {
+        Node::True => Ok(Formula::True),
+        Node::False => Ok(Formula::False),
+        Node::Atom(number, terms) => atom(
+            alloc,
+            signature,
+            binders.as_slice(),
+            place,
+            *number,
+            terms,
+        ),
+        Node::Same(left, right) => same(alloc, signature, binders.as_slice(), place, left, right),
+        Node::Differ(left, right) => differ(
+            alloc,
+            signature,
+            binders.as_slice(),
+            place,
+            left,
+            right,
+        ),
+        Node::Not(part) => negation(alloc, signature, binders, place, next, part.get()),
+        Node::And(parts) => match translate_all(alloc, signature, binders, place, next, parts) {
+            Ok(parts) => Ok(Formula::And(parts)),
+            Err(Memory) => Err(Memory),
+        },
+        Node::Or(parts) => match translate_all(alloc, signature, binders, place, next, parts) {
+            Ok(parts) => Ok(Formula::Or(parts)),
+            Err(Memory) => Err(Memory),
+        },
+        Node::Pair(op, left, right) => two_sides(
+            alloc,
+            signature,
+            binders,
+            place,
+            next,
+            *op,
+            left.get(),
+            right.get(),
+        ),
+        Node::Quant(quantifier, sort, variable, body) => quantification(
+            alloc,
+            signature,
+            binders,
+            place,
+            next,
+            *quantifier,
+            *sort,
+            variable,
+            body.get(),
+        ),
+        Node::Modal(mode, index, body) => modality(
+            alloc,
+            signature,
+            binders,
+            place,
+            next,
+            *mode,
+            *index,
+            body.get(),
+        ),
+    }
+}
+
+fn atom(
+    alloc: Global,
+    signature: &Signature,
+    binders: &[Text],
+    place: Place,
+    number: u32,
+    terms: &List<NTerm>,
+) -> Result<Formula, Memory>
+    requires different { HasDifferentNames signature.now }
+    requires named { HasForm signature.now binders.now (spec.Atom number terms.now) }
+    ensures { IfOk result (λ f. (d : ℕ) → IsForm signature.now binders.now (term_of place) d (spec.Atom number terms.now) f) }
+{
+    let symbol = signature.symbols.get(number as usize);
+    let name = user_name(alloc, &symbol.name)?;
+    let mut arguments = front(alloc, true, place, terms.len())?;
+    translate_terms(alloc, signature, binders, place, terms, &mut arguments)?;
+    Ok(Formula::Atom(name, arguments))
+}
+
+fn same(
+    alloc: Global,
+    signature: &Signature,
+    binders: &[Text],
+    place: Place,
+    left: &NTerm,
+    right: &NTerm,
+) -> Result<Formula, Memory>
+    requires different { HasDifferentNames signature.now }
+    requires named { HasForm signature.now binders.now (spec.Same left.now right.now) }
+    ensures { IfOk result (λ f. (d : ℕ) → IsForm signature.now binders.now (term_of place) d (spec.Same left.now right.now) f) }
+{
+    let left = translate_term(alloc, signature, binders, place, left)?;
+    let right = translate_term(alloc, signature, binders, place, right)?;
+    Ok(Formula::Same(left, right))
+}
+
+fn differ(
+    alloc: Global,
+    signature: &Signature,
+    binders: &[Text],
+    place: Place,
+    left: &NTerm,
+    right: &NTerm,
+) -> Result<Formula, Memory>
+    requires different { HasDifferentNames signature.now }
+    requires named { HasForm signature.now binders.now (spec.Differ left.now right.now) }
+    ensures { IfOk result (λ f. (d : ℕ) → IsForm signature.now binders.now (term_of place) d (spec.Differ left.now right.now) f) }
+{
+    let left = translate_term(alloc, signature, binders, place, left)?;
+    let right = translate_term(alloc, signature, binders, place, right)?;
+    Ok(Formula::Differ(left, right))
+}
+
+#[cycle(translate)]
+fn negation(
+    alloc: Global,
+    signature: &Signature,
+    binders: &mut Vec<Text>,
+    place: Place,
+    next: u64,
+    part: &Node,
+) -> Result<Formula, Memory>
+    requires different { HasDifferentNames signature.now }
+    requires named { HasForm signature.now binders.old.items (spec.Not part.now) }
+    ensures translated { IfOk result (IsForm signature.now binders.old.items (term_of place) next (spec.Not part.now)) }
+    ensures kept { OnOk result (binders.new.items ≡ binders.old.items) }
+{
+    let part = translate(alloc, signature, binders, place, next, part)?;
+    negated(alloc, part)
+}
+
+#[cycle(translate)]
+fn translate_all(
+    alloc: Global,
+    signature: &Signature,
+    binders: &mut Vec<Text>,
+    place: Place,
+    next: u64,
+    parts: &List<Node>,
+) -> Result<List<Formula>, Memory>
+    requires different { HasDifferentNames signature.now }
+    requires named { HasForms signature.now binders.old.items parts.now }
+    ensures translated { IfOk result (AreForms signature.now binders.old.items (term_of place) next parts.now) }
+    ensures kept { OnOk result (binders.new.items ≡ binders.old.items) }
+{
+    let mut made = List::with_capacity(alloc, parts.len())?;
+    for part in parts.as_slice() {
+        let translated = translate(alloc, signature, binders, place, next, part)?;
+        made.push(translated)?;
+    }
+    Ok(made)
+}
+
+#[cycle(translate)]
+fn two_sides(
+    alloc: Global,
+    signature: &Signature,
+    binders: &mut Vec<Text>,
+    place: Place,
+    next: u64,
+    op: Op,
+    left: &Node,
+    right: &Node,
+) -> Result<Formula, Memory>
+    requires different { HasDifferentNames signature.now }
+    requires named { HasForm signature.now binders.old.items (spec.Pair op left.now right.now) }
+    ensures translated { IfOk result (IsForm signature.now binders.old.items (term_of place) next (spec.Pair op left.now right.now)) }
+    ensures kept { OnOk result (binders.new.items ≡ binders.old.items) }
+{
+    let left = translate(alloc, signature, binders, place, next, left)?;
+    let right = translate(alloc, signature, binders, place, next, right)?;
+    pair(alloc, op, left, right)
+}
+
+#[cycle(translate)]
+fn quantification(
+    alloc: Global,
+    signature: &Signature,
+    binders: &mut Vec<Text>,
+    place: Place,
+    next: u64,
+    quantifier: Quantifier,
+    sort: u32,
+    variable: &Text,
+    body: &Node,
+) -> Result<Formula, Memory>
+    requires different { HasDifferentNames signature.now }
+    requires named { HasForm signature.now binders.old.items (spec.Quant quantifier sort variable.now body.now) }
+    ensures translated { IfOk result (IsForm signature.now binders.old.items (term_of place) next (spec.Quant quantifier sort variable.now body.now)) }
+    ensures kept { OnOk result (binders.new.items ≡ binders.old.items) }
+{
+    enter(alloc, binders, variable)?;
+    let body = translate(alloc, signature, binders, place, next, body)?;
+    let _ = binders.pop();
+    quantify(
+        alloc,
+        signature.sorts.get(sort as usize),
+        place,
+        quantifier,
+        variable,
+        body,
+    )
+}
+
+/// Enters a quantifier: its variable is the last binder.
+fn enter(alloc: Global, binders: &mut Vec<Text>, variable: &Text) -> Result<(), Memory>
+    ensures { OnOk result (binders.new.items ≡ binders.old.items ++ variable.now ∷ []) }
+{
+    binders.push(variable.copy(alloc)?)?;
+    Ok(())
+}
+
+/// A quantifier over a translated body: where the sort isn't constant, only what exists at the world counts.
+fn quantify(
+    alloc: Global,
+    sort: &SortEntry,
+    place: Place,
+    quantifier: Quantifier,
+    variable: &Text,
+    body: Formula,
+) -> Result<Formula, Memory>
+    ensures { IfOk result (λ f. f ≡ Quant1 quantifier (spelled.user_variable variable.now) (spelled.user_sort sort.now.name) (guarded (constant_regime sort.now.regime) quantifier (Atom (spelled.existence_name sort.now.name) (term_of place ∷ Var (spelled.user_variable variable.now) ∷ [])) body)) }
+{
+    let body = guard_body(alloc, sort, place, quantifier, variable, body)?;
+    let variable = user_variable(alloc, variable)?;
+    let sort = user_sort(alloc, &sort.name)?;
+    quantified(alloc, quantifier, variable, sort, body)
+}
+
+fn guard_body(
+    alloc: Global,
+    sort: &SortEntry,
+    place: Place,
+    quantifier: Quantifier,
+    variable: &Text,
+    body: Formula,
+) -> Result<Formula, Memory>
+    ensures { IfOk result (λ f. f ≡ guarded (constant_regime sort.now.regime) quantifier (Atom (spelled.existence_name sort.now.name) (term_of place ∷ Var (spelled.user_variable variable.now) ∷ [])) body) }
+{
+    if is_constant_regime(sort.regime) {
+        return Ok(body);
+    }
+    let there = existence(alloc, sort, place, variable)?;
+    match quantifier {
+        Quantifier::All => pair(alloc, Op::Implies, there, body),
+        Quantifier::Exists => both(alloc, there, body),
+    }
+}
+
+/// The atom that says that the variable's value exists at the world.
+fn existence(
+    alloc: Global,
+    sort: &SortEntry,
+    place: Place,
+    variable: &Text,
+) -> Result<Formula, Memory>
+    ensures { IfOk result (λ f. f ≡ Atom (spelled.existence_name sort.now.name) (term_of place ∷ Var (spelled.user_variable variable.now) ∷ [])) }
+{
+    let name = existence_name(alloc, &sort.name)?;
+    let at = place_term(alloc, place)?;
+    let what = Term::Var(user_variable(alloc, variable)?);
+    Ok(Formula::Atom(name, two_terms(alloc, at, what)?))
+}
+
+#[cycle(translate)]
+fn modality(
+    alloc: Global,
+    signature: &Signature,
+    binders: &mut Vec<Text>,
+    place: Place,
+    next: u64,
+    mode: Mode,
+    index: u32,
+    body: &Node,
+) -> Result<Formula, Memory>
+    requires different { HasDifferentNames signature.now }
+    requires named { HasForm signature.now binders.old.items (spec.Modal mode index body.now) }
+    ensures translated { IfOk result (IsForm signature.now binders.old.items (term_of place) next (spec.Modal mode index body.now)) }
+    ensures kept { OnOk result (binders.new.items ≡ binders.old.items) }
+{
+    // no memory holds a formula that is nested as deep as numbers go
+    let Some(deeper) = next.checked_add(1) else {
+        return Err(Memory);
+    };
+    let body = translate(
+        alloc,
+        signature,
+        binders,
+        Place::Reached(next),
+        deeper,
+        body,
+    )?;
+    let name = &signature.indexes.get(index as usize).name;
+    reached(alloc, name, place, next, mode, body)
+}
+
+/// What holds at each world that is reached, or at some of them.
+fn reached(
+    alloc: Global,
+    index: &IndexName,
+    place: Place,
+    next: u64,
+    mode: Mode,
+    body: Formula,
+) -> Result<Formula, Memory>
+    ensures { IfOk result (λ f. f ≡ over_worlds mode next (Atom (spelled.relation_name index.now) (term_of place ∷ Var (spelled.world_variable next) ∷ [])) body) }
+{
+    let step = access(alloc, index, place, next)?;
+    let variable = world_variable(alloc, next)?;
+    let sort = world_sort(alloc)?;
+    match mode {
+        Mode::Box => {
+            let guarded = pair(alloc, Op::Implies, step, body)?;
+            quantified(alloc, Quantifier::All, variable, sort, guarded)
+        }
+        Mode::Dia => {
+            let guarded = both(alloc, step, body)?;
+            quantified(alloc, Quantifier::Exists, variable, sort, guarded)
+        }
+    }
+}
+
+/// The atom that says that the next world is reached.
+fn access(alloc: Global, index: &IndexName, place: Place, next: u64) -> Result<Formula, Memory>
+    ensures { IfOk result (λ f. f ≡ Atom (spelled.relation_name index.now) (term_of place ∷ Var (spelled.world_variable next) ∷ [])) }
+{
+    let name = relation_name(alloc, index)?;
+    let from = place_term(alloc, place)?;
+    let to = Term::Var(world_variable(alloc, next)?);
+    Ok(Formula::Atom(name, two_terms(alloc, from, to)?))
+}
+
+/// The translation of a whole formula: at the actual world where it is local, for every world where it is global.
+pub fn translate_closed(
+    alloc: Global,
+    signature: &Signature,
+    scope: Scope,
+    node: &Node,
+) -> Result<Formula, Memory>
+    requires different { HasDifferentNames signature.now }
+    requires named { HasForm signature.now [] node.now }
+    ensures { IfOk result (IsEmbedded signature.now scope node.now) }
+{
+    let mut binders = Vec::new(alloc);
+    match scope {
+        Scope::Local => translate(alloc, signature, &mut binders, Place::Actual, 0, node),
+        Scope::Global => {
+            let body = translate(alloc, signature, &mut binders, Place::Reached(0), 1, node)?;
+            let variable = world_variable(alloc, 0)?;
+            let sort = world_sort(alloc)?;
+            quantified(alloc, Quantifier::All, variable, sort, body)
+        }
+    }
+}
