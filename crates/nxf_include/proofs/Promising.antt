@@ -10,7 +10,8 @@ use Rattle.nxf_tree.specs.declared.tree.Statement.TheVariants.{Annotated}
 use Rattle.nxf_tree.specs.FileDepth.{statement_list_depth}
 use Rattle.nxf_tree.specs.Weight.{statement_list_weight}
 use Rattle.nxf_statements.specs.Regular.{is_regular_statement}
-use Rattle.nxf_grammar.specs.Profiles.{allowed_in, any_allowed, greatest_nesting}
+use Rattle.nxf_grammar.specs.Profiles.{allowed_in, any_allowed, greatest_nesting, levels_of}
+use Rattle.nxf_grammar.specs.Levels.{statement_list_levels}
 use Rattle.nxf_include.specs.Gathered.{selected, unless_missing, first_missing, is_listed}
 use Rattle.nxf_include.specs.Promises.{is_no_include, IsFine, IsFineStatement, AreRead, AreFine}
 
@@ -20,12 +21,12 @@ pub problem_depth : (d : ℕ) → d ≤ 2 * greatest_nesting Problem + 1 → d �
 unfolding greatest_nesting
 problem_depth d h = h
 
-pub read_statements : (ss : List Statement) → list_all (is_regular_statement any_allowed) ss ≡ true → list_all (is_regular_statement (allowed_in Problem)) ss ≡ true → statement_list_depth ss ≤ 2001 → AreRead ss
-read_statements [] r a d = tt
-read_statements (s ∷ ss) r a d =
+pub read_statements : (ss : List Statement) → list_all (is_regular_statement any_allowed) ss ≡ true → list_all (is_regular_statement (allowed_in Problem)) ss ≡ true → statement_list_depth ss ≤ 2001 → statement_list_levels ss ≤ levels_of Problem → AreRead ss
+read_statements [] r a d l = tt
+read_statements (s ∷ ss) r a d l =
     let rs = and_parts (is_regular_statement any_allowed s) (list_all (is_regular_statement any_allowed) ss) r in
     let allowed = and_parts (is_regular_statement (allowed_in Problem) s) (list_all (is_regular_statement (allowed_in Problem)) ss) a in
-    (record { regular = rs.0; allowed = allowed.0; depth = omega (arith, d) }, read_statements ss rs.1 allowed.1 (omega (arith, d)))
+    (record { regular = rs.0; allowed = allowed.0; depth = omega (arith, d); levels = omega (arith, l) }, read_statements ss rs.1 allowed.1 (omega (arith, d)) (omega (arith, l)))
 
 -- ---- more statements
 
@@ -93,9 +94,10 @@ record AllFine (ss : List Statement) : Type 0 where
   allowed : list_all (is_regular_statement (allowed_in Problem)) ss ≡ true
   no_include : list_all is_no_include ss ≡ true
   depth : statement_list_depth ss ≤ 2001
+  levels : statement_list_levels ss ≤ levels_of Problem
 
 fine_statements : (ss : List Statement) → AreFine ss → AllFine ss
-fine_statements [] f = record { regular = refl; allowed = refl; no_include = refl; depth = omega arith }
+fine_statements [] f = record { regular = refl; allowed = refl; no_include = refl; depth = omega arith; levels = omega arith }
 fine_statements (s ∷ ss) f =
     let more = fine_statements ss f.1 in
     record {
@@ -103,9 +105,10 @@ fine_statements (s ∷ ss) f =
       allowed = and_from (is_regular_statement (allowed_in Problem) s) (list_all (is_regular_statement (allowed_in Problem)) ss) f.0.read.allowed more.allowed;
       no_include = and_from (is_no_include s) (list_all is_no_include ss) f.0.no_include more.no_include;
       depth = omega (arith, f.0.read.depth, more.depth);
+      levels = omega (arith, f.0.read.levels, more.levels);
     }
 
 pub whole_fine : (ss : List Statement) → AreFine ss → statement_list_weight ss ≤ 67108864 → IsFine (record { statements = ss })
 whole_fine ss f w =
     let all = fine_statements ss f in
-    record { regular = all.regular; allowed = all.allowed; no_include = all.no_include; depth = all.depth; weight = w }
+    record { regular = all.regular; allowed = all.allowed; no_include = all.no_include; depth = all.depth; levels = all.levels; weight = w }

@@ -8,7 +8,8 @@ use Rattle.nxf_tree.specs.declared.tree.Statement.TheVariants.{Annotated, Includ
 use Rattle.nxf_tree.specs.FileDepth.{statement_depth, file_depth}
 use Rattle.nxf_tree.specs.Weight.{file_weight}
 use Rattle.nxf_statements.specs.Regular.{is_regular_statement, IsRegular}
-use Rattle.nxf_grammar.specs.Profiles.{allowed_in, any_allowed}
+use Rattle.nxf_grammar.specs.Levels.{statement_levels, file_levels}
+use Rattle.nxf_grammar.specs.Profiles.{allowed_in, any_allowed, levels_of}
 
 -- the statement is no include
 abbrev pub is_no_include : Statement → Bool
@@ -22,6 +23,8 @@ pub record IsFine (file : File) : Type 0 where
   pub allowed : IsRegular (allowed_in Problem) file
   pub no_include : IsTrue (list_all is_no_include file.statements)
   pub depth : file_depth file ≤ 2001
+  -- as deep in brackets as a problem may be
+  pub levels : file_levels file ≤ levels_of Problem
   pub weight : file_weight file ≤ 67108864
 
 -- ---- the same of one statement after another
@@ -31,6 +34,7 @@ pub record IsReadStatement (s : Statement) : Type 0 where
   pub regular : IsTrue (is_regular_statement any_allowed s)
   pub allowed : IsTrue (is_regular_statement (allowed_in Problem) s)
   pub depth : statement_depth s ≤ 2001
+  pub levels : statement_levels s ≤ levels_of Problem
 
 pub record IsFineStatement (s : Statement) : Type 0 where
   pub read : IsReadStatement s

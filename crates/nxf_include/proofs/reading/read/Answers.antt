@@ -20,7 +20,7 @@ returns-in-Ok-read_file-clause-answers c = inl (spelled (c.in-Ok.tokens, c.in-Ok
 
 pub returns-in-Ok-read_file-clause-read : goal.returns-in-Ok-read_file-clause-read
 returns-in-Ok-read_file-clause-read c =
-    read_statements c.in-Ok-read_file.file.statements c.in-Ok-read_file.ensures.regular c.in-Ok-read_file.ensures.allowed (problem_depth _ c.in-Ok-read_file.ensures.depth)
+    read_statements c.in-Ok-read_file.file.statements c.in-Ok-read_file.ensures.regular c.in-Ok-read_file.ensures.allowed (problem_depth _ c.in-Ok-read_file.ensures.depth) c.in-Ok-read_file.ensures.levels
 
 pub returns-in-Err-Syntax-clause-answers : goal.returns-in-Err-Syntax-clause-answers
 returns-in-Err-Syntax-clause-answers c =
