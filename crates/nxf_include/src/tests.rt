@@ -4,7 +4,7 @@ use nxf_tree::{File, Statement};
 use std::alloc::Global;
 use std::test::Fail;
 
-ghost use Rattle.std.specs.Prelude.{None};
+ghost use Rattle.std.specs.Prelude.{◌≡◌, ◌+◌, ◌<◌, ◌^◌, ◌++◌, take, None, Ok, OnOk, OnErr, IsErrOf};
 
 // The names of the statements, each with a blank after it.
 fn names(alloc: Global, file: &File) -> Result<Vec<u8>, Fail> {
@@ -204,6 +204,21 @@ fn libraries_in_order(rt: HostRuntime) -> Result<(), Fail> {
     Ok(())
 }
 
+// Appends the first bytes of a file, one more than the limit at most.
+fn append(file: &[u8], limit: u64, into: &mut Vec<u8>) -> Result<Found, LoadError>
+    requires { limit < 2 ^ 32 }
+    ensures here { OnOk result (into.new.items ≡ into.old.items ++ take (limit + 1) file.now) }
+    ensures absent { result ≡ Ok Found.Absent → ⊥ }
+    ensures err { OnErr result (into.new.items ≡ into.old.items) }
+    ensures fault { IsErrOf result LoadError.Fault → ⊥ }
+{
+    let end = file.len().min(limit as usize + 1);
+    match into.extend_from_slice(&file[..end]) {
+        Ok(()) => Ok(Found::Here),
+        Err(_) => Err(LoadError::Memory),
+    }
+}
+
 // A library that has every file, and changes them: the first asks for another, and the second has a statement.
 struct Changing {
     loads: u64,
@@ -225,11 +240,7 @@ impl Library for Changing {
         } else {
             b"tff(x,axiom,p)."
         };
-        let end = file.len().min(limit as usize + 1);
-        match into.extend_from_slice(&file[..end]) {
-            Ok(()) => Ok(Found::Here),
-            Err(_) => Err(LoadError::Memory),
-        }
+        append(file, limit, into)
     }
 
     fn faults(&self) -> u64 {
