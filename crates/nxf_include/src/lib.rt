@@ -15,3 +15,6 @@ pub use gathering::{gather, gather_from};
 pub use laws::one_gathering;
 pub use loading::{load_one, load_one_from};
 pub use roots::{Roots, load_first};
+
+#[cfg(test)]
+mod tests;
