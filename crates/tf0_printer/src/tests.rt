@@ -136,12 +136,11 @@ fn many_members(rt: HostRuntime) -> Result<(), Fail> {
         members.push(Formula::Atom(text(alloc, b"p")?, List::new(alloc)))?;
     }
     let mut statements = List::new(alloc);
-    statements.push(statement(
-        alloc,
-        b"axiom",
-        Body::Formula(Formula::And(members)),
-    )?)?;
+    statements.push(statement(alloc, b"axiom", Body::Formula(Formula::And(members)))?)?;
     let printed = print_file(alloc, &File { statements })?;
-    assert_eq!(rt; printed.len(), "tff(r,axiom,).\n".len() + 100_000 + 3 * 99_999);
+    assert_eq!(rt;
+        printed.len(),
+        "tff(r,axiom,).\n".len() + 100_000 + 3 * 99_999
+    );
     Ok(())
 }
