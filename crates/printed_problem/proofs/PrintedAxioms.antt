@@ -1,5 +1,5 @@
 -- The added axioms of a well-formed signature are regular, and need few levels.
-use Rattle.std.proofs.Common.{◌≡◌, ℕ, zero, suc, ◌+◌, ◌*◌, ◌≤◌, max, Bool, true, false, cond, ◌&&◌, List, [], ◌∷◌, ◌++◌, length, map, Option, Some, None, refl, sym, ap, ◌∙◌, arith}
+use Rattle.std.proofs.Common.{◌≡◌, ℕ, zero, suc, ◌+◌, ◌*◌, ◌≤◌, Bool, true, false, cond, ◌&&◌, List, [], ◌∷◌, ◌++◌, length, map, Option, Some, None, refl, ap, ◌∙◌, arith}
 use Rattle.std.specs.Prelude.{nat_le}
 use Rattle.std.specs.List.{list_all, AllByRecursion}
 use Rattle.std.proofs.lemmas.Bool.{and_parts, and_from, le-leb}
@@ -10,7 +10,7 @@ use Rattle.nxf_tree.specs.declared.tree.SymbolEntry.{SymbolEntry}
 use Rattle.nxf_tree.specs.declared.tree.IndexEntry.{IndexEntry}
 use Rattle.nxf_tree.specs.declared.tree.IndexName.{IndexName}
 use Rattle.nxf_tree.specs.declared.tree.SortName.{SortName}
-use Rattle.nxf_tree.specs.declared.tree.SortName.TheVariants.{Individual, User}
+use Rattle.nxf_tree.specs.declared.tree.SortName.TheVariants.{User}
 use Rattle.nxf_tree.specs.declared.tree.Locality.{Locality}
 use Rattle.nxf_tree.specs.declared.tree.Locality.TheVariants.{Local, Global}
 use Rattle.nxf_tree.specs.declared.tree.Regime.{Regime}
@@ -28,12 +28,12 @@ use Rattle.nxf_tree.specs.Names.{user_name, user_sort, world_variable, element_v
 use Rattle.nxf_tree.specs.Signature.{is_constant, is_flexible, sort_at, sort_names, symbol_names, index_names}
 use Rattle.nxf_tree.specs.WellFormed.{is_name, is_sort_name, is_index_name}
 use Rattle.nxf_tree.specs.Embedding.{at_world}
-use Rattle.nxf_tree.specs.Conditions.{varying_result, local_result, argument_sorts}
-use Rattle.nxf_tree.specs.Axioms.{world, element, for_each_world, for_some_world, for_each_element, for_some_element, reaches, exists_at, frame_axiom, frame_axioms, someone_axiom, everyone_axiom, stay_axiom, were_there_axiom, monotone_axioms, sort_axioms, domain_axioms_of, domain_axioms, elements_from, for_each_row, row_guards, under_guards, value_exists, term_axiom, result_axioms, term_axioms_of, term_axioms, added_axioms}
+use Rattle.nxf_tree.specs.Conditions.{local_result, argument_sorts}
+use Rattle.nxf_tree.specs.Axioms.{world, element, for_each_world, for_some_world, for_each_element, for_some_element, reaches, exists_at, frame_axiom, frame_axioms, someone_axiom, everyone_axiom, stay_axiom, were_there_axiom, monotone_axioms, domain_axioms_of, domain_axioms, elements_from, for_each_row, row_guards, under_guards, value_exists, term_axiom, result_axioms, term_axioms_of, term_axioms, added_axioms}
 use Rattle.nxf_formulas.specs.Regular.{is_regular_sort, is_regular_index, is_regular_term, is_regular_list, is_regular_formula, is_regular_formula_list}
 use Rattle.nxf_formulas.proofs.RegularTrees.{regular_App, regular_And}
 use Rattle.nxf_statements.specs.Regular.{is_regular_result}
-use Rattle.nxf_grammar.specs.Levels.{term_levels, list_levels, with_brackets, formula_levels, unit_levels, unit_list_levels}
+use Rattle.nxf_grammar.specs.Levels.{term_levels, list_levels, with_brackets, formula_levels, unit_list_levels}
 use Rattle.nxf_grammar.proofs.LevelsOfTrees.{levels_of_App, levels_of_And}
 use Rattle.printed_problem.proofs.PrintedNames.{printable_user_name, regular_user_sort, world_variable_is, element_variable_is, printable_world, printable_relation, printable_existence, printable_name, regular_sort_name, regular_index_name}
 use Rattle.printed_problem.proofs.PrintedFormulas.{named_list, regular_pair}

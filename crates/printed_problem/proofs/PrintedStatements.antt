@@ -18,16 +18,14 @@ use Rattle.nxf_tree.specs.declared.tree.SortName.{SortName}
 use Rattle.nxf_tree.specs.declared.tree.SortName.TheVariants.{Individual, User}
 use Rattle.nxf_tree.specs.declared.tree.Part.{Part}
 use Rattle.nxf_tree.specs.declared.tree.Part.TheVariants.{Premise, Conjecture}
-use Rattle.nxf_tree.specs.declared.tree.Role.{Role}
 use Rattle.nxf_tree.specs.declared.tree.Formula.{Formula}
-use Rattle.nxf_tree.specs.declared.tree.Body.{Body}
 use Rattle.nxf_tree.specs.declared.tree.Body.TheVariants as body
 use Rattle.nxf_tree.specs.declared.tree.Typing.{Typing}
 use Rattle.nxf_tree.specs.declared.tree.Typing.TheVariants.{Sort, Symbol}
 use Rattle.nxf_tree.specs.declared.tree.Statement.{Statement}
 use Rattle.nxf_tree.specs.declared.tree.Statement.TheVariants as statement
 use Rattle.nxf_tree.specs.declared.tree.File.{File}
-use Rattle.nxf_tree.specs.Names.{user_name, user_sort, world_name, actual_name, axiom_name, relation_name, existence_name}
+use Rattle.nxf_tree.specs.Names.{user_sort, world_name, actual_name, axiom_name, existence_name}
 use Rattle.nxf_tree.specs.Signature.{constant_regime, takes_world, sort_names, symbol_names, index_names}
 use Rattle.nxf_tree.specs.WellFormed.{is_name, is_sort_name, is_index_name, IsWellFormed}
 use Rattle.nxf_tree.specs.ClassicalSignature.{relation_entry, relation_entries, existence_entries, symbol_table, symbol_entries, classical_signature_of}
@@ -38,7 +36,7 @@ use Rattle.nxf_tree.specs.Problem.{problem_of, role_of, statement_of, declaratio
 use Rattle.nxf_tree.specs.Text.{text_of}
 use Rattle.nxf_formulas.specs.Regular.{is_regular_sort, is_regular_formula}
 use Rattle.nxf_statements.specs.Statements.{body_kind}
-use Rattle.nxf_statements.specs.Regular.{is_regular_result, is_regular_typing, is_regular_role, is_body_of, is_regular_body, is_regular_statement, IsRegular}
+use Rattle.nxf_statements.specs.Regular.{is_regular_result, is_regular_typing, is_regular_role, is_body_of, is_regular_statement, IsRegular}
 use Rattle.nxf_grammar.specs.Levels.{formula_levels, statement_levels, statement_list_levels, file_levels}
 use Rattle.nxf_grammar.specs.Profiles.{allowed_in, levels_of, greatest_nesting, most_arguments}
 use Rattle.nxf_grammar.specs.Spells.{Spells}
@@ -238,8 +236,14 @@ module _ (sig : Signature) where
 
   problem_levels : (m : Allowed) (most : ℕ) (file : File) → AllByRecursion (IsFine m most) (added_axioms sig) → file_levels (problem_of sig file) ≤ max most (3 * file_levels file + 3)
   problem_levels m most file axioms =
-      omega (arith, levels_append (declarations (classical_signature_of sig)) (axiom_statements 1 (added_axioms sig) ++ embedded_statements sig file.statements), levels_append (axiom_statements 1 (added_axioms sig)) (embedded_statements sig file.statements),
-          declaration_levels (classical_signature_of sig), axiom_levels m most 1 (added_axioms sig) axioms, embedded_list_levels file.statements)
+      omega (
+        arith,
+        levels_append (declarations (classical_signature_of sig)) (axiom_statements 1 (added_axioms sig) ++ embedded_statements sig file.statements),
+        levels_append (axiom_statements 1 (added_axioms sig)) (embedded_statements sig file.statements),
+        declaration_levels (classical_signature_of sig),
+        axiom_levels m most 1 (added_axioms sig) axioms,
+        embedded_list_levels file.statements,
+      )
 
 -- ---- the profiles
 

@@ -1,19 +1,21 @@
 -- The text of a regular file spells the file and no other, where the profile has levels enough.
 use Rattle.std.proofs.Common.{◌≡◌, ℕ, suc, ◌-◌, ◌≤◌, Bool, true, false, List, [], ◌∷◌, ◌++◌, refl, sym, subst, ◌∙◌, arith, append_assoc}
-use Rattle.std.specs.Prelude.{codes, flat_map}
+use Rattle.std.specs.Prelude.{codes, flat_map, IsTrue}
 use Rattle.std.specs.List.{list_all}
-use Rattle.std.proofs.lemmas.Bool.{and_parts, true≢false}
+use Rattle.std.proofs.lemmas.Bool.{and_parts, and_from, true≢false}
 use Rattle.nxf_signs.specs.declared.sign.Profile.{Profile}
 use Rattle.nxf_signs.specs.declared.sign.Profile.TheVariants as profiles
 use Rattle.nxf_signs.specs.Input.{Input}
-use Rattle.nxf_signs.specs.Spelled.{Allowed}
+use Rattle.nxf_signs.specs.Spelled.{Allowed, is_printable_text}
 use Rattle.nxf_tree.specs.declared.tree.Role.{Role}
 use Rattle.nxf_tree.specs.declared.tree.Body.{Body}
 use Rattle.nxf_tree.specs.declared.tree.Statement.{Statement}
 use Rattle.nxf_tree.specs.declared.tree.Statement.TheVariants as statement
 use Rattle.nxf_tree.specs.declared.tree.File.{File}
-use Rattle.nxf_tree.specs.Text.{statement_text, text_of}
-use Rattle.nxf_statements.specs.Regular.{is_regular_statement, IsRegular}
+use Rattle.nxf_tree.specs.declared.tree.Body.TheVariants as body
+use Rattle.nxf_tree.specs.Text.{has_text, is_printable, statement_text, text_of}
+use Rattle.nxf_statements.specs.Statements.{body_kind}
+use Rattle.nxf_statements.specs.Regular.{is_regular_role, is_body_of, is_regular_statement, IsRegular}
 use Rattle.nxf_grammar.specs.Files.{statement_parts, AreRead, no_more, one_more}
 use Rattle.nxf_grammar.specs.Profiles.{has_includes, has_modalities, most_arguments, greatest_nesting, levels_of, allowed_in}
 use Rattle.nxf_grammar.specs.Levels.{statement_list_levels, file_levels}
@@ -70,6 +72,27 @@ pub regular_file_spelled : (p : Profile) (f : File) → has_modalities p ≡ fal
 regular_file_spelled p f none h low =
     let e : levels_of p ≡ suc (levels_of p - 1) = omega (arith, some_levels p) in
     spelled p (text_of f) (file_items f.statements) f (file_lexed p (allowed_in p) (fits_profile p none) f.statements h) (read_at p f (levels_of p - 1) none h e (omega (arith, low, e)))
+
+-- ---- statements without a text
+
+statement_printable : (l : Allowed) (s : Statement) → l.modal ≡ false → is_regular_statement l s ≡ true → has_text s ≡ true
+statement_printable l (statement.Annotated name role (body.Formula f)) none h = refl
+statement_printable l (statement.Annotated name role (body.Typing t)) none h = refl
+statement_printable l (statement.Annotated name role (body.Logic s)) none h =
+    let t = and_parts (is_printable_text name) _ h in
+    let u = and_parts (is_regular_role role) _ t.1 in
+    let v = and_parts (is_body_of (body_kind role.word) (body.Logic s)) _ u.1 in
+    absurd (true≢false (sym (and_parts l.modal _ v.1).0 ∙ none))
+statement_printable l (statement.Include file names) none h = refl
+
+statements_printable : (l : Allowed) (ss : List Statement) → l.modal ≡ false → list_all (is_regular_statement l) ss ≡ true → list_all has_text ss ≡ true
+statements_printable l [] none h = refl
+statements_printable l (s ∷ ss) none h =
+    let t = and_parts (is_regular_statement l s) (list_all (is_regular_statement l) ss) h in
+    and_from (has_text s) (list_all has_text ss) (statement_printable l s none t.0) (statements_printable l ss none t.1)
+
+pub regular_file_printable : (p : Profile) (f : File) → has_modalities p ≡ false → IsRegular (allowed_in p) f → IsTrue (is_printable f)
+regular_file_printable p f none h = statements_printable (allowed_in p) f.statements none h
 
 pub no_other_spelled : (p : Profile) (f g : File) → has_modalities p ≡ false → IsRegular (allowed_in p) f → file_levels f ≤ levels_of p → Spells p (text_of f) g → g ≡ f
 no_other_spelled p f g none h low spells = one_file_spelled p (text_of f) g f spells (regular_file_spelled p f none h low)

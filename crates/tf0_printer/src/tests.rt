@@ -1,14 +1,17 @@
-ghost use Rattle.std.specs.Prelude.{IfOk, IsTrue};
+ghost use Rattle.std.specs.Prelude.{◌≡◌, false, IfOk, IsTrue};
+ghost use Rattle.nxf_grammar.specs.Profiles.{has_modalities};
 ghost use Rattle.nxf_tree.specs.Text.{body_has_text, has_text};
 
-use crate::{print_file, print_name};
+use crate::{print_file, print_name, regular_file_is_printed};
 use nxf_base::{List, Memory, Text};
+use nxf_grammar::{Profile, read_file};
 use nxf_tree::{
     Body, File, Formula, Op, Quantifier, Role, SortName, Statement, Term, Typing, negated, pair,
     quantified,
 };
 use std::alloc::Global;
 use std::test::Fail;
+use tptp_lex::lex;
 
 #[test]
 fn names_in_quotes(rt: HostRuntime) -> Result<(), Fail> {
@@ -78,6 +81,66 @@ fn a_declaration_and_an_axiom(rt: HostRuntime) -> Result<(), Fail> {
     assert_eq!(rt;
         printed.as_slice(),
         b"tff(r,type,r: ( s * $i ) > $o).\ntff(r,axiom,! [X: s] : ( r(X,'it\\'s') ~& ~ $false )).\n".as_slice()
+    );
+    Ok(())
+}
+
+// The text that is printed of the file that the text spells.
+fn printed_again(alloc: Global, text: &[u8], profile: Profile) -> Result<Vec<u8>, Fail>
+    requires { has_modalities profile ≡ false }
+{
+    if text.len() >= 1 << 32 {
+        return Ok(Vec::new(alloc));
+    }
+    let Ok(tokens) = lex(alloc, text) else {
+        return Ok(Vec::new(alloc));
+    };
+    let Ok(file) = read_file(alloc, text, &tokens, profile) else {
+        return Ok(Vec::new(alloc));
+    };
+    regular_file_is_printed();
+    Ok(print_file(alloc, &file)?)
+}
+
+#[test]
+fn printed_problems_come_back(rt: HostRuntime) -> Result<(), Fail> {
+    let alloc = rt.alloc();
+    for text in [
+        "tff(mk_in,type,mk_in: ( mk_world * $i ) > $o).\n",
+        "tff(c,type,c: mk_world > $i).\n",
+        "tff('1',axiom-local,'p q').\n",
+        "tff(person,type,person: $tType).\ntff(i,type,$i: $tType).\ntff(ann,type,ann: person).\n",
+        "tff(mk_ax_3,axiom,! [W_0: mk_world] : ! [W_1: mk_world] : ! [X_0: $i] : ( ( mk_acc(W_0,W_1) & mk_in(W_0,X_0) ) => mk_in(W_1,X_0) )).\n",
+        "tff(c,conjecture,? [X: $i] : ( X = c(mk_actual) & ! [W_0: mk_world] : ( mk_acc(mk_actual,W_0) => X = c(W_0) ) )).\n",
+        "tff(a,plain,( p <= q ) | ( p <=> ~ q ) | ( p <~> $true ) | ( p ~| $false ) | ( p ~& q ) | c != f('it\\'s',X)).\n",
+    ] {
+        let printed = printed_again(alloc, text.as_bytes(), Profile::Classical)?;
+        assert_eq!(rt; printed.as_slice(), text.as_bytes());
+    }
+    Ok(())
+}
+
+#[test]
+fn different_elements_come_back(rt: HostRuntime) -> Result<(), Fail> {
+    let text = "tff(e,axiom,$distinct(mk_w_0,mk_w_1) & p).\n";
+    let printed = printed_again(rt.alloc(), text.as_bytes(), Profile::Interpretation)?;
+    assert_eq!(rt; printed.as_slice(), text.as_bytes());
+    Ok(())
+}
+
+#[test]
+fn many_members(rt: HostRuntime) -> Result<(), Fail> {
+    let alloc = rt.alloc();
+    let mut members = List::new(alloc);
+    for _member in 0..100_000 {
+        members.push(Formula::Atom(text(alloc, b"p")?, List::new(alloc)))?;
+    }
+    let mut statements = List::new(alloc);
+    statements.push(statement(alloc, b"axiom", Body::Formula(Formula::And(members)))?)?;
+    let printed = print_file(alloc, &File { statements })?;
+    assert_eq!(rt;
+        printed.len(),
+        "tff(r,axiom,).\n".len() + 100_000 + 3 * 99_999
     );
     Ok(())
 }
