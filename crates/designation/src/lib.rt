@@ -5,3 +5,6 @@ mod parts;
 mod writing;
 
 pub use writing::axioms;
+
+#[cfg(test)]
+mod tests;

@@ -6,3 +6,6 @@ mod sorts;
 mod writing;
 
 pub use writing::axioms;
+
+#[cfg(test)]
+mod tests;

@@ -6,3 +6,6 @@ mod schemes;
 mod writing;
 
 pub use writing::axioms;
+
+#[cfg(test)]
+mod tests;

@@ -1,8 +1,11 @@
 pub mod Cases
 pub mod Declaring
 pub mod FirstForm
-pub mod Fronts
 pub mod Noting
-pub mod Numerals
 pub mod Printable
 pub mod WorkedCases
+pub mod TableSteps
+pub mod Numbering
+pub mod Choosing
+pub mod Read
+pub mod WorkedProblems

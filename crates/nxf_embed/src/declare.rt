@@ -5,9 +5,9 @@ ghost use Rattle.nxf_tree.specs.Names as spelled;
 ghost use Rattle.nxf_tree.specs.Problem as spec;
 ghost use Rattle.nxf_tree.specs.Problem.{role_of, classical_sort_at};
 
-use crate::names::{actual_name, world_name};
 use nxf_base::{List, Memory, Text};
 use nxf_tree::{Body, ClassicalSignature, Formula, Role, SortName, Statement, TableEntry, Typing};
+use signature_parts::{actual_name, world_name};
 use std::alloc::Global;
 
 /// A role of one word.
@@ -144,7 +144,7 @@ fn sorts_at(
 ) -> Result<List<SortName>, Memory>
     ensures { IfOk result (λ found. found ≡ map (classical_sort_at sorts.now) numbers.now) }
 {
-    let mut found = List::new(alloc);
+    let mut found = List::with_capacity(alloc, numbers.len())?;
     for number in numbers.as_slice() {
         found.push(sort_at(alloc, sorts, *number)?)?;
     }

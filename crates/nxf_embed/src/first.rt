@@ -11,11 +11,11 @@ ghost use Rattle.nxf_tree.specs.Text.{is_printable};
 ghost use Rattle.nxf_embed.specs.Propositional.{predicate_table_of};
 
 use crate::declare::{declarations, formula_statement};
-use crate::names::{relation_name, user_name, world_name};
 use crate::occurrences::{has_modality, predicates};
 use crate::translation::{Place, translate};
 use nxf_base::{List, Memory, Text};
 use nxf_tree::{ClassicalSignature, File, Formula, IndexName, SortName, TableEntry};
+use signature_parts::{relation_name, user_name, world_name};
 use std::alloc::Global;
 
 /// The classical problem of a conjecture in the modal system K: the declarations of the worlds, the actual world, the

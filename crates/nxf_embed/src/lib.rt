@@ -1,18 +1,23 @@
 //! The translation of a modal problem into a classical one, whose countermodels are those of the problem: the standard
-//! relational translation, in which worlds are elements of a sort of their own.
+//! relational translation, in which worlds are elements of a sort of their own. There is no other error than want of
+//! memory.
 #![tactic(auto)]
 
+mod added;
+mod chosen;
 mod declare;
 mod first;
-mod names;
 mod occurrences;
+mod tables;
 mod translation;
+mod whole;
 
 pub use declare::declarations;
 pub use first::embed_first;
-pub use names::{actual_name, relation_name, user_name, world_name, world_variable};
 pub use occurrences::{has_modality, predicates};
+pub use tables::classical_signature;
 pub use translation::{Place, translate};
+pub use whole::embed;
 
 #[cfg(test)]
 mod tests;

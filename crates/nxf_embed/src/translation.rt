@@ -9,11 +9,11 @@ ghost use Rattle.nxf_tree.specs.Names as spelled;
 ghost use Rattle.nxf_embed.specs.Place.{term_of};
 ghost use Rattle.nxf_embed.specs.Propositional.{is_propositional, no_signature};
 
-use crate::names::{actual_name, relation_name, user_name, world_name, world_variable};
 use nxf_base::{List, Memory};
 use nxf_tree::{
     Formula, IndexName, Mode, Op, Quantifier, SortName, Term, both, negated, pair, quantified,
 };
+use signature_parts::{actual_name, relation_name, user_name, world_name, world_variable};
 use std::alloc::Global;
 
 /// The world at which a formula is translated.

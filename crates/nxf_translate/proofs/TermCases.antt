@@ -40,7 +40,7 @@ variable-place (x ∷ xs) zero y d h = (omega arith, variable-step (has same_tex
 variable-place (x ∷ xs) (suc k) y d h = let p = variable-place xs k y d h in (omega (arith, p.0), p.1)
 
 -- a symbol that has a name stands at its place
-place-of : {A : Type 0} (those : List A) (k : ℕ) (a : A) → slice_get those k ≡ Some a → k < length those
+pub place-of : {A : Type 0} (those : List A) (k : ℕ) (a : A) → slice_get those k ≡ Some a → k < length those
 place-of [] k a h = absurd cc
 place-of (b ∷ bs) zero a h = omega arith
 place-of (b ∷ bs) (suc k) a h = omega (arith, place-of bs k a h)

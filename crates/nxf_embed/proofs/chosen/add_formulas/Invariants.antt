@@ -1,0 +1,14 @@
+use Rattle.std.proofs.Common.{◌≡◌, ℕ, ◌<◌, ◌≤◌, ◌++◌, List, length, drop}
+use Rattle.std.specs.Prelude.{slice_get, Some}
+use Rattle.nxf_sorts.specs.declared.node.Numbered.{Numbered}
+use Rattle.nxf_sorts.specs.NamedForm.{FormulaStatement, IsSortedFormula, all_named}
+use Rattle.nxf_embed.specs.Chosen.{chosen}
+use Rattle.nxf_embed.proofs.chosen.add_formulas.Given as goal
+
+abbrev pub invariant-loop-at : goal.invariant-loop-at
+invariant-loop-at l = record {
+  within : l.next ≤ length l.parts;
+  added : (fs : List FormulaStatement) → all_named l.checked.signature l.checked.formulas ≡ Some fs
+      → l.statements ++ chosen l.checked.signature (drop l.at fs) (drop l.next l.parts) ≡ l.initial.statements ++ chosen l.checked.signature fs l.parts;
+  sorted : (k : ℕ) (n : Numbered) → k < l.at → slice_get l.checked.formulas k ≡ Some n → IsSortedFormula l.checked.signature n.node;
+}
