@@ -1,10 +1,5 @@
-pub mod Levels
-pub mod Complete
-pub mod Sound
-pub mod Exact
-pub mod Regular
-pub mod Words
+pub mod WordLists
 pub mod Appending
-pub mod Answering
-pub mod Loading
 pub mod Ending
+pub mod Answering
+pub mod Reading

@@ -1,56 +1,82 @@
--- The answer of the program to its words: a text, or a refusal.
-use Rattle.std.specs.Prelude.{◌≡◌, ◌≢◌, ◌↔◌, ℕ, List, [], ◌∷◌, codes, Option, None, Some, IfSome, Result, Ok, Err}
-use Rattle.nxf_base.specs.Files.{Files, file_of}
+-- The answer of the program to its words, by the files of its libraries: a text, or a refusal.
+use Rattle.std.specs.Prelude.{◌≡◌, ◌↔◌, ℕ, List, Option, IfSome, Result, Ok, Err}
+use Rattle.nxf_base.specs.Files.{Files}
 use Rattle.nxf_base.specs.declared.status.Status.{Status}
 use Rattle.nxf_base.specs.declared.status.Status.TheVariants as status
-use Rattle.nxf_tree.specs.declared.tree.Formula.{Formula}
+use Rattle.nxf_tree.specs.declared.tree.File.{File}
 use Rattle.nxf_tree.specs.Structures.{KripkeStructure, ClassicalStructure, IsOver, Corresponds}
 use Rattle.nxf_tree.specs.Countermodels.{IsKripkeCountermodel, IsClassicalCountermodel}
 use Rattle.nxf_tree.specs.ClassicalSignature.{classical_signature_of}
-use Rattle.nxf_tree.specs.FirstForm.{first_signature, first_problem}
 use Rattle.nxf_tree.specs.Problem.{problem_of}
-use Rattle.nxf_tree.specs.Profile.{Problem, problem_in}
+use Rattle.nxf_tree.specs.Profile.{Problem, Refusal, RefusedRole, RefusedSpec, RefusedSort, problem_in}
+use Rattle.nxf_tree.specs.Sorting.{FileIsOver}
 use Rattle.nxf_tree.specs.Text.{text_of}
-use Rattle.nxf_run.specs.FirstGrammar.{HasFirstForm}
+use Rattle.nxf_signs.specs.declared.sign.Profile.TheVariants.{Classical}
+use Rattle.nxf_grammar.specs.Spells.{Spells}
+use Rattle.nxf_include.specs.declared.gather_error.GatherError.{GatherError}
+use Rattle.nxf_include.specs.declared.gather_error.GatherError.TheVariants as gather
+use Rattle.nxf_include.specs.Gathered.{Gathers}
+use Rattle.nxf_run.specs.Forms.{form_of, Embed, Later, NoForm}
 
 abbrev pub Answer : Type 0
 Answer = Result (List ℕ) Status
 
--- the name of standard input
-abbrev pub stdin : List ℕ
-stdin = codes "-"
+-- the status of a file that is refused as it is gathered
+abbrev pub status_of_gathering : GatherError → Status
+status_of_gathering (gather.NoFile name) = status.NoFile name
+status_of_gathering gather.ReadFault = status.ReadFault
+status_of_gathering (gather.TooLong name) = status.TooLong name
+status_of_gathering gather.TooMuch = status.TooMuch
+status_of_gathering (gather.Deep name) = status.Deep name
+status_of_gathering (gather.Lex name offset) = status.Lex name offset
+status_of_gathering (gather.Syntax name place) = status.Syntax name place
+status_of_gathering (gather.NoSuchName file name) = status.NoSuchName file name
+status_of_gathering gather.Memory = status.Memory
 
--- the words that are answered so far, `embed -`
-abbrev pub embed_stdin : List (List ℕ)
-embed_stdin = codes "embed" ∷ stdin ∷ []
+-- the status of a gathered file that is not in the profile
+abbrev pub status_of_refusal : Refusal → Status
+status_of_refusal (RefusedRole kind place) = status.Role kind place
+status_of_refusal (RefusedSpec kind) = status.Spec kind
+status_of_refusal (RefusedSort kind place name) = status.Sort kind place name
 
--- The file of this name is so, where the files are told: its bytes, or none. Files that aren't told may be any.
-abbrev pub Holds : Option Files → List ℕ → Option (List ℕ) → Type 0
-Holds told name file = IfSome told (λ files. file_of name files ≡ file)
+-- the classical problem of a file in the profile as text, or the first refusal of its roles, its logic statement and its sorts
+abbrev pub answer_by : File → Result Problem Refusal → Answer
+answer_by file (Ok problem) = Ok (text_of (problem_of problem.signature file))
+answer_by file (Err refusal) = Err (status_of_refusal refusal)
 
--- the printed classical problem of a conjecture in system K
-abbrev pub translation : Formula → List ℕ
-translation f = text_of (problem_of (first_signature f) (first_problem f))
+-- the answer to a gathered file, or to one that is refused before
+abbrev pub answer_to : Result File GatherError → Answer
+answer_to (Ok file) = answer_by file (problem_in file)
+answer_to (Err error) = Err (status_of_gathering error)
 
--- The answer to the words, by the files where they are told. The words are judged first, then whether there is a file, then its form.
-pub data IsAnswer (told : Option Files) : List (List ℕ) → Answer → Type 0 where
-  other_words : {words : List (List ℕ)} → words ≢ embed_stdin → IsAnswer told words (Err status.NotYet)
-  no_file : Holds told stdin None → IsAnswer told embed_stdin (Err (status.NoFile stdin))
-  other_form : {bytes : List ℕ} → Holds told stdin (Some bytes) → ((f : Formula) → HasFirstForm bytes f → ⊥) → IsAnswer told embed_stdin (Err status.NotYet)
-  translated : {bytes : List ℕ} {f : Formula} → Holds told stdin (Some bytes) → HasFirstForm bytes f → IsAnswer told embed_stdin (Ok (translation f))
+-- the files decide it: it is no failure of a library and no want of memory
+abbrev pub IsOfFiles : Result File GatherError → Type 0
+IsOfFiles (Err gather.ReadFault) = ⊥
+IsOfFiles (Err gather.Memory) = ⊥
+IsOfFiles _ = Unit {0}
 
--- The text is the translation of a conjecture, and means what it means: the problem is in the profile, with this signature,
--- and over each Kripke structure of the signature and the classical structure that corresponds to it, the countermodels of
--- the one problem are those of the other.
-pub record IsTranslation (conjecture : Formula) (text : List ℕ) : Type 0 where
-  pub text_is : text ≡ translation conjecture
-  pub in_profile : (problem : Problem) × (problem_in (first_problem conjecture) ≡ Ok problem) × (problem.signature ≡ first_signature conjecture)
-  pub keeps_countermodels : (K : KripkeStructure) (S : ClassicalStructure) → IsOver (first_signature conjecture) K → Corresponds K S →
-      IsClassicalCountermodel (classical_signature_of (first_signature conjecture)) (problem_of (first_signature conjecture) (first_problem conjecture)) S
-      ↔ IsKripkeCountermodel (first_signature conjecture) (first_problem conjecture) K
+-- Such is the file of this name with all that it includes, where the files are told. Files that aren't told may be any.
+abbrev pub Gathered : Option Files → List ℕ → Result File GatherError → Type 0
+Gathered told name outcome = IfSome told (λ files. Gathers files name outcome)
 
--- the text is the translation of a file of these bytes
-pub record Translates (bytes text : List ℕ) : Type 0 where
-  pub conjecture : Formula
-  pub form : HasFirstForm bytes conjecture
-  pub translation : IsTranslation conjecture text
+-- The answer to the words, by the files where they are told. The words are judged first, then the file as it is gathered,
+-- then its roles, its logic statement and its sorts.
+pub data IsAnswer (told : Option Files) (words : List (List ℕ)) : Answer → Type 0 where
+  no_form : form_of words ≡ NoForm → IsAnswer told words (Err status.Usage)
+  later : form_of words ≡ Later → IsAnswer told words (Err status.NotYet)
+  embeds : (name : List ℕ) (outcome : Result File GatherError) → form_of words ≡ Embed name → Gathered told name outcome → IsOfFiles outcome
+      → IsAnswer told words (answer_to outcome)
+
+-- What the text of a file says: the file is in the profile; the text is that of its classical problem; read as a classical problem
+-- it spells that problem and no other; the problem is over the file's classical signature; and over each Kripke structure of the
+-- file's signature and the classical structure that corresponds to it, the one is a countermodel of the classical problem exactly
+-- where the other is one of the file.
+pub record IsTranslation (file : File) (text : List ℕ) : Type 0 where
+  pub problem : Problem
+  pub in_profile : problem_in file ≡ Ok problem
+  pub text_is : text ≡ text_of (problem_of problem.signature file)
+  pub spells : Spells Classical text (problem_of problem.signature file)
+  pub no_other : (other : File) → Spells Classical text other → other ≡ problem_of problem.signature file
+  pub over : FileIsOver (classical_signature_of problem.signature) (problem_of problem.signature file)
+  pub keeps_countermodels : (K : KripkeStructure) (S : ClassicalStructure) → IsOver problem.signature K → Corresponds K S →
+      IsClassicalCountermodel (classical_signature_of problem.signature) (problem_of problem.signature file) S ↔ IsKripkeCountermodel problem.signature file K

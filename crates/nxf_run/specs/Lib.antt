@@ -1,5 +1,4 @@
-pub mod FirstGrammar
-pub mod Parse
+pub mod Forms
 pub mod Answer
 pub mod Ending
 pub mod Steps

@@ -1,129 +1,120 @@
 //! What is to be written, before a byte of it is.
-ghost use Rattle.std.specs.Prelude.{◌≡◌, ◌≢◌, ◌<◌, ◌&&◌, codes, ◌^◌, ◌⊎◌, ℕ, IsTrue, IfOk, IfErr, Ok, Err, MatchOption, MatchResult};
-ghost use Rattle.std.specs.Str.{bytes_eq};
-ghost use Rattle.nxf_base.specs.Causes.{Rose};
-ghost use Rattle.nxf_base.specs.Shelf.{Keeps};
-ghost use Rattle.nxf_tree.specs.Depth.{formula_depth};
-ghost use Rattle.nxf_tree.specs.FirstForm.{is_first};
+ghost use Rattle.std.specs.Prelude.{◌≡◌, ◌⊎◌, IsTrue, IfOk, IfErr, Err, MatchResult, map};
 ghost use Rattle.nxf_tree.specs.Text.{text_of, is_printable};
-ghost use Rattle.nxf_run.specs.Answer.{IsTranslation, Translates, embed_stdin, stdin};
-ghost use Rattle.nxf_run.specs.Steps.{HasOtherForm, Loaded, LoadRefuses, FileTranslates, FileRefuses, Refuses};
+ghost use Rattle.nxf_include.specs.Roots.{files_of, Keeps, SomeFaultRose, EachMissRose};
+ghost use Rattle.nxf_include.specs.Promises.{IsFine};
+ghost use Rattle.nxf_run.specs.Answer as answer;
+ghost use Rattle.nxf_run.specs.Answer.{IsTranslation};
+ghost use Rattle.nxf_run.specs.Ending.{NamesFile};
+ghost use Rattle.nxf_run.specs.Steps.{Translates, FileTranslates, NameRefuses, FileRefuses, Refuses, IsReading};
 
-use crate::reader::read_first;
-use nxf_base::{Found, Library, LoadError, Memory, Status, Text};
-use nxf_embed::embed_first;
-use nxf_tree::{File, Formula};
+use crate::words::{file_to_embed, is_later};
+use logic_spec::{SpecError, read_spec};
+use nxf_base::{Library, Memory, Status, Text};
+use nxf_embed::embed;
+use nxf_include::{GatherError, gather_from};
+use nxf_roles::{Parts, RoleError, sort_roles};
+use nxf_sorts::{Checked, SortError, check};
+use nxf_tree::File;
 use std::alloc::Global;
 use tf0_printer::print_file;
-
-/// The greatest number of bytes of a file.
-const FILE_LIMIT: u64 = 16_777_216;
 
 /// The text of the answer to the words, or why there is none.
 pub fn prepare<L: Library>(
     alloc: Global,
     words: &[Text],
-    library: &mut L,
+    libraries: &mut [L],
 ) -> Result<Vec<u8>, Status>
-    ensures text { IfOk result (λ text. (words.now ≡ embed_stdin) × FileTranslates (L.shelf library.old).files stdin text.items) }
-    ensures refused { IfErr result (λ s. Refuses (L.shelf library.old).files words.now s) }
-    ensures no_file { (name : _) → result ≡ Err (Status.NoFile name) → (words.now ≡ embed_stdin) × (name ≡ stdin) × Rose (L.shelf library.old).misses (L.shelf library.new).misses }
-    ensures read_fault { result ≡ Err Status.ReadFault → (words.now ≡ embed_stdin) × Rose (L.shelf library.old).faults (L.shelf library.new).faults }
-    ensures keeps { Keeps (L.shelf library.old) (L.shelf library.new) }
+    ensures text { IfOk result (λ text. Translates (files_of (map L.shelf libraries.old)) words.now text.items) }
+    ensures refused { IfErr result (λ s. Refuses (files_of (map L.shelf libraries.old)) words.now s) }
+    ensures no_file { (name : _) → result ≡ Err (Status.NoFile name) → NamesFile words.now × EachMissRose (map L.shelf libraries.old) (map L.shelf libraries.new) }
+    ensures read_fault { result ≡ Err Status.ReadFault → NamesFile words.now × SomeFaultRose (map L.shelf libraries.old) (map L.shelf libraries.new) }
+    ensures keeps { Keeps (map L.shelf libraries.old) (map L.shelf libraries.new) }
 {
-    match stdin_of(words) {
-        Some(file) => embed_file(alloc, library, file),
-        None => Err(Status::NotYet),
+    match file_to_embed(words) {
+        Some(name) => embed_file(alloc, libraries, name),
+        None if is_later(words) => Err(Status::NotYet),
+        None => Err(Status::Usage),
     }
 }
 
-/// The file of the words `embed -`; all other words have none.
-fn stdin_of(words: &[Text]) -> Option<&Text>
-    ensures { MatchOption result (words.now ≢ embed_stdin) (λ file. (words.now ≡ embed_stdin) × (file.now ≡ stdin)) }
+/// The translation of the file of this name with all that it includes.
+fn embed_file<L: Library>(
+    alloc: Global,
+    libraries: &mut [L],
+    name: &Text,
+) -> Result<Vec<u8>, Status>
+    ensures answers { MatchResult result (λ text. FileTranslates (files_of (map L.shelf libraries.old)) name.now text.items) (NameRefuses (files_of (map L.shelf libraries.old)) name.now) }
+    ensures no_file { (missing : _) → result ≡ Err (Status.NoFile missing) → EachMissRose (map L.shelf libraries.old) (map L.shelf libraries.new) }
+    ensures read_fault { result ≡ Err Status.ReadFault → SomeFaultRose (map L.shelf libraries.old) (map L.shelf libraries.new) }
+    ensures keeps { Keeps (map L.shelf libraries.old) (map L.shelf libraries.new) }
 {
-    let [command, file] = words else {
-        return None;
+    match gather_from(alloc, libraries, name) {
+        Ok(file) => translate(alloc, file),
+        Err(error) => Err(status_of_gathering(error)),
+    }
+}
+
+/// The status of a file that is refused as it is gathered.
+fn status_of_gathering(error: GatherError) -> Status
+    ensures { result ≡ answer.status_of_gathering error }
+{
+    match error {
+        GatherError::NoFile(name) => Status::NoFile(name),
+        GatherError::ReadFault => Status::ReadFault,
+        GatherError::TooLong(name) => Status::TooLong(name),
+        GatherError::TooMuch => Status::TooMuch,
+        GatherError::Deep(name) => Status::Deep(name),
+        GatherError::Lex(name, offset) => Status::Lex(name, offset),
+        GatherError::Syntax(name, place) => Status::Syntax(name, place),
+        GatherError::NoSuchName(file, name) => Status::NoSuchName(file, name),
+        GatherError::Memory => Status::Memory,
+    }
+}
+
+/// The translation of a gathered file.
+fn translate(alloc: Global, file: File) -> Result<Vec<u8>, Status>
+    requires { IsFine file }
+    ensures { MatchResult result (λ text. IsTranslation file text.items) (FileRefuses file) }
+{
+    let (parts, checked) = match read(alloc, &file) {
+        Ok(reading) => reading,
+        Err(status) => return Err(status),
     };
-    if is_embed_stdin(command, file) {
-        Some(file)
-    } else {
-        None
-    }
-}
-
-fn is_embed_stdin(command: &Text, file: &Text) -> bool
-    ensures { result ≡ bytes_eq command.now (codes "embed") && bytes_eq file.now stdin }
-{
-    command.bytes() == b"embed".as_slice() && file.bytes() == b"-".as_slice()
-}
-
-/// The translation of the file of this name.
-fn embed_file<L: Library>(alloc: Global, library: &mut L, name: &Text) -> Result<Vec<u8>, Status>
-    ensures answers { MatchResult result (λ text. FileTranslates (L.shelf library.old).files name.now text.items) (FileRefuses (L.shelf library.old).files name.now) }
-    ensures no_file { (missing : _) → result ≡ Err (Status.NoFile missing) → (missing ≡ name.now) × Rose (L.shelf library.old).misses (L.shelf library.new).misses }
-    ensures read_fault { result ≡ Err Status.ReadFault → Rose (L.shelf library.old).faults (L.shelf library.new).faults }
-    ensures keeps { Keeps (L.shelf library.old) (L.shelf library.new) }
-{
-    match load_file(alloc, library, name) {
-        Ok(bytes) => translate(alloc, &bytes),
-        Err(status) => Err(status),
-    }
-}
-
-/// The bytes of the file of this name, one more than a file may have at most.
-fn load_file<L: Library>(alloc: Global, library: &mut L, name: &Text) -> Result<Vec<u8>, Status>
-    ensures answers { MatchResult result (λ bytes. Loaded (L.shelf library.old).files name.now bytes.items) (LoadRefuses (L.shelf library.old).files name.now) }
-    ensures no_file { (missing : _) → result ≡ Err (Status.NoFile missing) → (missing ≡ name.now) × Rose (L.shelf library.old).misses (L.shelf library.new).misses }
-    ensures read_fault { result ≡ Err Status.ReadFault → Rose (L.shelf library.old).faults (L.shelf library.new).faults }
-    ensures keeps { Keeps (L.shelf library.old) (L.shelf library.new) }
-{
-    let mut bytes = Vec::new(alloc);
-    match library.load(name, FILE_LIMIT, &mut bytes) {
-        Ok(Found::Here) => Ok(bytes),
-        Ok(Found::Absent) => Err(no_file(alloc, name)),
-        Err(LoadError::Fault) => Err(Status::ReadFault),
-        Err(LoadError::Memory) => Err(Status::Memory),
-    }
-}
-
-fn no_file(alloc: Global, name: &Text) -> Status
-    ensures { result ≡ Status.NoFile name.now ⊎ result ≡ Status.Memory }
-{
-    match name.copy(alloc) {
-        Ok(name) => Status::NoFile(name),
-        Err(Memory) => Status::Memory,
-    }
-}
-
-/// The translation of a file of these bytes.
-fn translate(alloc: Global, bytes: &[u8]) -> Result<Vec<u8>, Status>
-    ensures { MatchResult result (λ text. Translates bytes.now text.items)
-        (λ s. (HasOtherForm bytes.now × (s ≡ Status.NotYet)) ⊎ s ≡ Status.Memory) }
-{
-    match read_first(alloc, bytes) {
-        Ok(Some(conjecture)) => translate_formula(alloc, &conjecture),
-        Ok(None) => Err(Status::NotYet),
+    drop(file);
+    match embed(alloc, &checked, &parts) {
+        Ok(problem) => print(alloc, &problem),
         Err(Memory) => Err(Status::Memory),
     }
 }
 
-/// The translation of a conjecture.
-fn translate_formula(alloc: Global, conjecture: &Formula) -> Result<Vec<u8>, Status>
-    requires first { IsTrue (is_first conjecture.now) }
-    requires bounded { formula_depth conjecture.now < 2 ^ 32 }
-    ensures { MatchResult result (λ text. IsTranslation conjecture.now text.items) (λ s. s ≡ Status.Memory) }
+/// What the file is read as, where it is in the profile.
+fn read(alloc: Global, file: &File) -> Result<(Parts, Checked), Status>
+    requires { IsFine file.now }
+    ensures { MatchResult result (λ reading. IsReading file.now reading.0 reading.1) (FileRefuses file.now) }
 {
-    match embed_first(alloc, conjecture) {
-        Ok(file) => print(alloc, &file),
-        Err(Memory) => Err(Status::Memory),
+    let parts = match sort_roles(alloc, file) {
+        Ok(parts) => parts,
+        Err(RoleError::Kind(kind, place)) => return Err(Status::Role(kind, place)),
+        Err(RoleError::Memory) => return Err(Status::Memory),
+    };
+    let spec = match read_spec(alloc, file) {
+        Ok(spec) => spec,
+        Err(SpecError::Kind(kind)) => return Err(Status::Spec(kind)),
+        Err(SpecError::Memory) => return Err(Status::Memory),
+    };
+    match check(alloc, file, &spec) {
+        Ok(checked) => Ok((parts, checked)),
+        Err(SortError::Kind(kind, place, name)) => Err(Status::Sort(kind, place, name)),
+        Err(SortError::Memory) => Err(Status::Memory),
     }
 }
 
-fn print(alloc: Global, file: &File) -> Result<Vec<u8>, Status>
-    requires printable { IsTrue (is_printable file.now) }
-    ensures { MatchResult result (λ text. text.items ≡ text_of file.now) (λ s. s ≡ Status.Memory) }
+fn print(alloc: Global, problem: &File) -> Result<Vec<u8>, Status>
+    requires printable { IsTrue (is_printable problem.now) }
+    ensures { MatchResult result (λ text. text.items ≡ text_of problem.now) (λ s. s ≡ Status.Memory) }
 {
-    match print_file(alloc, file) {
+    match print_file(alloc, problem) {
         Ok(text) => Ok(text),
         Err(Memory) => Err(Status::Memory),
     }

@@ -1,40 +1,59 @@
 //! The top call.
-ghost use Rattle.std.specs.Prelude.{◌≡◌, ℕ, List, Some};
+ghost use Rattle.std.specs.Prelude.{◌≡◌, ℕ, List, Some, map};
 ghost use Rattle.nxf_base.specs.Files.{Files};
+ghost use Rattle.nxf_include.specs.Roots.{files_of};
 ghost use Rattle.nxf_run.specs.Answer.{Answer, IsAnswer};
 ghost use Rattle.nxf_run.specs.Ending.{Follows, HasCause, MayEnd, Reports, Completes, Means};
 
 use crate::output::{report, write_all};
 use crate::prepare::prepare;
-use nxf_base::{Library, List, Sink, SinkError, Status, Text};
+use nxf_base::{Boxed, Library, List, Sink, SinkError, Status, Text};
+use nxf_include::Roots;
 use std::alloc::Global;
 
-/// All that the program does: it answers the words, over a library of files, with a text to `out` or a line to `err`.
-/// `out` gets bytes only after the whole text was made. The one answer so far is to `embed -`: the classical problem
-/// of a file of the first form.
-pub fn run<L: Library, O: Sink, E: Sink>(
+/// All that the program does: it answers the words, over the files of a list of libraries, with a text to `out` or a line
+/// to `err`. `out` gets bytes only after the whole text was made. The answer to `embed FILE` is the classical problem of the
+/// file; the other commands have no answer yet.
+pub fn run<O: Sink, E: Sink>(
     alloc: Global,
     words: &List<Text>,
-    library: &mut L,
+    roots: &mut Roots,
     out: &mut O,
     err: &mut E,
 ) -> Status
     // The status and the bytes of `out` are those of the answer.
-    ensures answers { Follows (L.shelf library.old).files words.now result (O.held out.old) (O.held out.new) }
+    ensures answers { Follows (files_of (map ⟦<Boxed as Library>⟧.shelf roots.old.libraries.items)) words.now result (O.held out.old) (O.held out.new) }
 
     // A status that came from outside has its cause there.
-    ensures causes { HasCause words.now result (L.shelf library.old) (L.shelf library.new) (O.faults out.old) (O.faults out.new) }
+    ensures causes { HasCause words.now result (map ⟦<Boxed as Library>⟧.shelf roots.old.libraries.items) (map ⟦<Boxed as Library>⟧.shelf roots.new.libraries.items) (O.faults out.old) (O.faults out.new) }
 
     // A refusal is told to `err`.
-    ensures reports { Reports (MayEnd words.now (L.shelf library.old) (L.shelf library.new) (O.held out.old) (O.held out.new) (O.faults out.old) (O.faults out.new)) result (E.held err.old) (E.held err.new) (E.faults err.old) (E.faults err.new) }
+    ensures reports { Reports (MayEnd words.now (map ⟦<Boxed as Library>⟧.shelf roots.old.libraries.items) (map ⟦<Boxed as Library>⟧.shelf roots.new.libraries.items) (O.held out.old) (O.held out.new) (O.faults out.old) (O.faults out.new)) result (E.held err.old) (E.held err.new) (E.faults err.old) (E.faults err.new) }
 
     // Where there is a text and nothing failed, it is given.
-    ensures completes { Completes words.now result (L.shelf library.old) (L.shelf library.new) (O.faults out.old) (O.faults out.new) }
+    ensures completes { Completes words.now result (map ⟦<Boxed as Library>⟧.shelf roots.old.libraries.items) (map ⟦<Boxed as Library>⟧.shelf roots.new.libraries.items) (O.faults out.old) (O.faults out.new) }
 
     // The text means what the file means: their countermodels correspond.
-    ensures means { result ≡ Status.Ok → Means (L.shelf library.old).files (O.held out.old) (O.held out.new) }
+    ensures means { result ≡ Status.Ok → Means (files_of (map ⟦<Boxed as Library>⟧.shelf roots.old.libraries.items)) words.now (O.held out.old) (O.held out.new) }
 {
-    match prepare(alloc, words.as_slice(), library) {
+    run_over(alloc, words, &mut roots.libraries, out, err)
+}
+
+/// The same over any libraries.
+pub fn run_over<L: Library, O: Sink, E: Sink>(
+    alloc: Global,
+    words: &List<Text>,
+    libraries: &mut [L],
+    out: &mut O,
+    err: &mut E,
+) -> Status
+    ensures answers { Follows (files_of (map L.shelf libraries.old)) words.now result (O.held out.old) (O.held out.new) }
+    ensures causes { HasCause words.now result (map L.shelf libraries.old) (map L.shelf libraries.new) (O.faults out.old) (O.faults out.new) }
+    ensures reports { Reports (MayEnd words.now (map L.shelf libraries.old) (map L.shelf libraries.new) (O.held out.old) (O.held out.new) (O.faults out.old) (O.faults out.new)) result (E.held err.old) (E.held err.new) (E.faults err.old) (E.faults err.new) }
+    ensures completes { Completes words.now result (map L.shelf libraries.old) (map L.shelf libraries.new) (O.faults out.old) (O.faults out.new) }
+    ensures means { result ≡ Status.Ok → Means (files_of (map L.shelf libraries.old)) words.now (O.held out.old) (O.held out.new) }
+{
+    match prepare(alloc, words.as_slice(), libraries) {
         Ok(text) => match write_all(out, &text) {
             Ok(()) => Status::Ok,
             Err(SinkError::Fault) => report(alloc, Status::WriteFault, err),
@@ -44,7 +63,7 @@ pub fn run<L: Library, O: Sink, E: Sink>(
     }
 }
 
-/// Where the files are told, each list of words has one answer.
+/// Where the files are told, the words have one answer at most.
 pub fn one_answer()
-    ensures { (files : Files) (words : List (List ℕ)) → (answer : Answer) × IsAnswer (Some files) words answer × ((other : Answer) → IsAnswer (Some files) words other → other ≡ answer) }
+    ensures { (files : Files) (words : List (List ℕ)) (one other : Answer) → IsAnswer (Some files) words one → IsAnswer (Some files) words other → one ≡ other }
 {}

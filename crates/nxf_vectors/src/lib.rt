@@ -2,4 +2,12 @@
 #![tactic(auto)]
 
 #[cfg(test)]
+mod embed;
+#[cfg(test)]
+mod failing;
+#[cfg(test)]
+mod outcome;
+#[cfg(test)]
+mod refusals;
+#[cfg(test)]
 mod specification;
