@@ -1,2 +1,5 @@
 pub mod NamedForm
 pub mod Checked
+pub mod Scope
+pub mod InStep
+pub mod Numbering

@@ -1,9 +1,13 @@
 //! The sort check: names in a file's formulas become numbers of its signature, or the first fault of its sorts is named.
 #![tactic(auto)]
 
+mod binders;
 mod checked;
 mod error;
+mod fault;
+mod formula;
 mod node;
+mod number;
 
 pub use checked::Checked;
 pub use error::SortError;

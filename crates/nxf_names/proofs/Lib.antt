@@ -1,0 +1,6 @@
+pub mod Lookups
+pub mod Walks
+pub mod PlaceLemmas
+pub mod Noted
+pub mod Asked
+pub mod TablesLaw

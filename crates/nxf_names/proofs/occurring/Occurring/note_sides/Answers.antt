@@ -1,0 +1,14 @@
+use Rattle.std.proofs.Common.{ap, ◌∙◌, sym}
+use Rattle.std.proofs.lemmas.List.Sums.{fold-append}
+use Rattle.nxf_names.specs.Tables.{uses_in, seen_in, and_occurrence, and_occurrences, term_occurrences}
+use Rattle.nxf_names.proofs.Walks.{on_ok, of_Same}
+use Rattle.nxf_names.proofs.occurring.Occurring.note_sides.Goals as goal
+
+pub returns-in-Ok : goal.returns-in-Ok
+returns-in-Ok c =
+    let us = uses_in c.args.declarations.now.symbols.entries in
+    let old = seen_in c.args.self.now in
+    on_ok c.note_term-in-Ok.result
+    (λ h. h ∙ ap (λ s. and_occurrences us s (term_occurrences c.args.right.now)) c.in-Ok.ensures
+    ∙ sym (ap (and_occurrences us old) (of_Same c.args.left.now c.args.right.now) ∙ fold-append (and_occurrence us) old (term_occurrences c.args.left.now) (term_occurrences c.args.right.now)))
+    c.note_term-in-Ok.ensures

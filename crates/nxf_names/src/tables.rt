@@ -1,0 +1,61 @@
+//! The tables of a file's names.
+
+ghost use Rattle.std.specs.Prelude.{◌≡◌, ◌+◌, ◌-◌, ◌^◌, ◌<◌, ◌||◌, length, IfOk, Ok, IsTrue};
+ghost use Rattle.std.specs.List.{list_any};
+ghost use Rattle.nxf_tree.specs.SignatureOf.{mentions_individual};
+ghost use Rattle.nxf_names.specs.Tables.{uses_in};
+ghost use Rattle.nxf_tree.specs.Specification.{spec_of};
+ghost use Rattle.logic_spec.specs.Asked.{asked_by};
+ghost use Rattle.nxf_names.specs.TablesOf.{AreTablesOf};
+
+use crate::declarations::Declarations;
+use crate::occurring::Occurring;
+use crate::signature::any_has_individual;
+use logic_spec::Spec;
+use nxf_base::Memory;
+use nxf_tree::File;
+use std::alloc::Global;
+
+/// What is declared, what occurs, and whether `$i` is one of the sorts.
+#[derive(Drop)]
+pub struct Tables {
+    pub declarations: Declarations,
+    pub occurring: Occurring,
+    pub individual: bool,
+}
+
+/// Whether `$i` occurs: in the type of a symbol, or as the sort of a variable or the subject of a type statement.
+fn has_individual(occurring: &Occurring) -> bool
+    ensures { result ≡ (list_any mentions_individual (uses_in occurring.now.symbols.entries) || occurring.now.individual) }
+{
+    if any_has_individual(&occurring.symbols) {
+        return true;
+    }
+    occurring.individual
+}
+
+/// The tables of a file. There is no other error than want of memory.
+pub fn tables_of(alloc: Global, file: &File, spec: &Spec) -> Result<Tables, Memory>
+    requires { spec_of file.now ≡ Ok (asked_by spec.now) }
+    ensures { IfOk result (λ t. AreTablesOf file.now.statements t) }
+{
+    let statements = file.statements.as_slice();
+    let declarations = Declarations::of(alloc, statements)?;
+    let occurring = Occurring::of(alloc, &declarations, spec.overrides(), statements)?;
+    let individual = has_individual(&occurring);
+    Ok(Tables {
+        declarations,
+        occurring,
+        individual,
+    })
+}
+
+/// Whether numbers of 32 bits are enough for the names.
+pub fn is_small(tables: &Tables) -> bool
+    ensures { IsTrue result → length tables.now.declarations.sorts.keys + length tables.now.occurring.symbols.entries + length tables.now.occurring.indexes.keys < 2 ^ 31 - 1 }
+{
+    let sorts = tables.declarations.sorts.len() as u128;
+    let symbols = tables.occurring.symbols.len() as u128;
+    let indexes = tables.occurring.indexes.len() as u128;
+    sorts + symbols + indexes < 0x7fff_ffff
+}

@@ -1,0 +1,4 @@
+pub mod ScopeLemmas
+pub mod UseLemmas
+pub mod TermLemmas
+pub mod FormulaLemmas

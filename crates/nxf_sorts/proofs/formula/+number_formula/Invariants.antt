@@ -1,0 +1,13 @@
+use Rattle.std.proofs.Common.{◌≡◌, drop, take}
+use Rattle.std.specs.Prelude.{Some}
+use Rattle.nxf_sorts.specs.NamedForm.{named_forms}
+use Rattle.nxf_sorts.specs.Scope.{variables}
+use Rattle.nxf_sorts.specs.Numbering.{KnowsAllIndexes, formulas_faults}
+use Rattle.nxf_sorts.proofs.formula.+number_formula.Given as goal
+
+abbrev pub invariant-number_formulas-loop-formula : goal.invariant-number_formulas-loop-formula
+invariant-number_formulas-loop-formula l = record {
+  same : l.binders ≡ l.fn.binders;
+  faults : formulas_faults l.names.signature l.names.declared l.fn.binders l.formulas ≡ formulas_faults l.names.signature l.names.declared l.fn.binders (drop l.formula-index l.formulas);
+  named : KnowsAllIndexes l.names.signature l.formulas → named_forms l.names.signature (variables l.fn.binders) l.nodes ≡ Some (take l.formula-index l.formulas);
+}

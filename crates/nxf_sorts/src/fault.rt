@@ -1,0 +1,24 @@
+//! Faults of sorts.
+
+ghost use Rattle.nxf_sorts.specs.Numbering.{IsFault};
+ghost use Rattle.std.specs.Prelude.{Some};
+
+use nxf_base::{Memory, SortKind, Text};
+use std::alloc::Global;
+
+/// The first fault of a formula, a typing or an override: its kind and the name that it is about; or want of memory.
+#[derive(Debug, Drop)]
+pub enum Fault {
+    Kind(SortKind, Text),
+    Memory,
+}
+
+/// A fault that is about a name.
+pub fn fault_of(alloc: Global, kind: SortKind, name: &[u8]) -> Fault
+    ensures { IsFault (Some (kind, name.now)) result }
+{
+    match Text::from_bytes(alloc, name) {
+        Ok(name) => Fault::Kind(kind, name),
+        Err(Memory) => Fault::Memory,
+    }
+}
