@@ -8,3 +8,6 @@ mod terms;
 
 pub use formulas::translate_closed;
 pub use place::Place;
+
+#[cfg(test)]
+mod tests;

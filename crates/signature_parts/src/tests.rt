@@ -34,10 +34,16 @@ fn names_of_the_printed_problem(rt: HostRuntime) -> Result<(), Fail> {
     let plain = relation_name(alloc, &IndexName::Plain)?;
     assert_eq!(rt; plain.bytes(), b"mk_acc".as_slice());
     let index = IndexName::Named(Text::from_bytes(alloc, b"a")?);
-    assert_eq!(rt; relation_name(alloc, &index)?.bytes(), b"mk_acc_a".as_slice());
+    assert_eq!(rt;
+        relation_name(alloc, &index)?.bytes(),
+        b"mk_acc_a".as_slice()
+    );
     let existence = existence_name(alloc, &SortName::Individual)?;
     assert_eq!(rt; existence.bytes(), b"mk_in".as_slice());
     let sort = SortName::User(Text::from_bytes(alloc, b"s")?);
-    assert_eq!(rt; existence_name(alloc, &sort)?.bytes(), b"mk_in_s".as_slice());
+    assert_eq!(rt;
+        existence_name(alloc, &sort)?.bytes(),
+        b"mk_in_s".as_slice()
+    );
     Ok(())
 }
