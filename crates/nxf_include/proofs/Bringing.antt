@@ -85,8 +85,8 @@ module _ (Whole : Files → Step Visited) (levels : ℕ) (done : List Statement)
         let here : Before (done ++ kept) Rest result = subst (λ xs. Before xs Rest result) e brought in
         at_include files result h a
         (before_wider done (Before kept Rest) (Brings (Visits files levels) sum (Include file names ∷ rest))
-            (λ r b. inl (part, met_ok (Some files) (λ files. Visits files levels sum file) part m, inl (kept, sym k, b)))
-            result (before_both done kept Rest result here))
+        (λ r b. inl (part, met_ok (Some files) (λ files. Visits files levels sum file) part m, inl (kept, sym k, b)))
+        result (before_both done kept Rest result here))
 
     pub refuses_included : (told : Option Files) (e : GatherError) → Underway told Whole levels done sum all → all ≡ Include file names ∷ rest → Meets told (λ files. Visits files levels sum file) (Err e) → Meets told Whole (Err e)
     refuses_included told e h a (inr m) = inr m

@@ -80,7 +80,7 @@ none_lost names (n ∷ ns) ss h =
     let any : list_any (is_named n) (filter (is_listed names) ss) ≡ list_any (is_named n) ss = any-filter_same (is_named n) (is_listed names) true (λ s k. named_listed names n s k ∙ listed) ss in
     ap (λ b. if b then first_missing ns (filter (is_listed names) ss) else Some n) any
     ∙ ap (λ o. if list_any (is_named n) ss then o else Some n)
-      (none_lost names ns ss (λ m k. h m (ap (λ b. same_text n m || b) k ∙ or_true (same_text n m))))
+    (none_lost names ns ss (λ m k. h m (ap (λ b. same_text n m || b) k ∙ or_true (same_text n m))))
 
 missing_kept : (names : List (List ℕ)) (ss : List Statement) → first_missing names (filter (is_listed names) ss) ≡ first_missing names ss
 missing_kept names ss = none_lost names names ss (λ n h. h)

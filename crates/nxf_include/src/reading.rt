@@ -46,12 +46,7 @@ pub fn enter<L: Library>(
 }
 
 /// The statements of these bytes, which are those of the file, with their length added to the sum.
-fn read_counted(
-    alloc: Global,
-    name: &Text,
-    sum: u64,
-    bytes: &[u8],
-) -> Result<Visited, GatherError>
+fn read_counted(alloc: Global, name: &Text, sum: u64, bytes: &[u8]) -> Result<Visited, GatherError>
     requires sum { sum ≤ 67108864 }
     requires bytes { length bytes.now ≤ 16777216 }
     ensures answers { ReadsCounted name.now sum bytes.now result ⊎ (result ≡ Err GatherError.Memory) }

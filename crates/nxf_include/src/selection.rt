@@ -118,11 +118,7 @@ fn is_among(listed: &IndexSet<Text>, statement: &Statement) -> bool
 }
 
 /// Adds the statement's name.
-fn note_name(
-    alloc: Global,
-    found: &mut IndexSet<Text>,
-    statement: &Statement,
-) -> Result<(), Memory>
+fn note_name(alloc: Global, found: &mut IndexSet<Text>, statement: &Statement) -> Result<(), Memory>
     ensures { OnOk result ((name : List ℕ) → contains same_text found.new name ≡ (contains same_text found.old name || is_named name statement.now)) }
 {
     match statement {

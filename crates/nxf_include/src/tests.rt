@@ -1,10 +1,10 @@
+ghost use Rattle.std.specs.Prelude.{◌≡◌, ◌+◌, ◌<◌, ◌^◌, ◌++◌, take, None, Ok, OnOk, OnErr, IsErrOf};
+
 use crate::{GatherError, Roots, gather, gather_from, load_first, load_one};
 use nxf_base::{Boxed, Found, Library, LoadError, MemoryLibrary, Text};
 use nxf_tree::{File, Statement};
 use std::alloc::Global;
 use std::test::Fail;
-
-ghost use Rattle.std.specs.Prelude.{◌≡◌, ◌+◌, ◌<◌, ◌^◌, ◌++◌, take, None, Ok, OnOk, OnErr, IsErrOf};
 
 // The names of the statements, each with a blank after it.
 fn names(alloc: Global, file: &File) -> Result<Vec<u8>, Fail> {
@@ -34,7 +34,12 @@ fn refusal(alloc: Global, error: &GatherError) -> Result<Vec<u8>, Fail> {
         GatherError::TooLong(name) => message(alloc, b"too long ", name, b""),
         GatherError::TooMuch => Ok(b"too much".to_vec(alloc)?),
         GatherError::Deep(name) => message(alloc, b"too deep ", name, b""),
-        GatherError::Lex(name, at) => message(alloc, b"lex ", name, &[b' ', b'0' + (*at % 10) as u8]),
+        GatherError::Lex(name, at) => message(
+            alloc,
+            b"lex ",
+            name,
+            &[b' ', b'0' + (*at % 10) as u8],
+        ),
         GatherError::Syntax(name, place) => {
             message(alloc, b"syntax ", name, &[b' ', b'0' + (*place % 10) as u8])
         }
@@ -74,19 +79,35 @@ fn gathered(alloc: Global, files: &[(&str, &str)], failing: u64) -> Result<Vec<u
     outcome(alloc, &mut [library(alloc, files, failing)?], "-")
 }
 
-const FIVE: &str = "tff(a,axiom,p). tff('b c',axiom,q). tff(1,axiom,r). tff(a,axiom,s). tff(d,axiom,t).";
+const FIVE: &str =
+    "tff(a,axiom,p). tff('b c',axiom,q). tff(1,axiom,r). tff(a,axiom,s). tff(d,axiom,t).";
 
 #[test]
 fn includes_are_replaced(rt: HostRuntime) -> Result<(), Fail> {
     let alloc = rt.alloc();
     let rows: [(&str, &str, &str, &str); 9] = [
         ("tff(x,axiom,p). tff(y,axiom,p).", "", "", "x y "),
-        ("tff(x,axiom,p). include('A'). tff(y,axiom,p).", FIVE, "", "x a b c 1 a d y "),
+        (
+            "tff(x,axiom,p). include('A'). tff(y,axiom,p).",
+            FIVE,
+            "",
+            "x a b c 1 a d y ",
+        ),
         ("include('A'). include('A').", "tff(m,axiom,p).", "", "m m "),
         ("include('A',[d,a]).", FIVE, "", "a a d "),
         ("include('A',['1','b c','1']).", FIVE, "", "b c 1 "),
-        ("include('A',[d,m]).", "tff(m,axiom,p). include('B/b.ax'). tff(n,axiom,p).", FIVE, "m d "),
-        ("include('A').", "include('B/b.ax',[d]). tff(a,axiom,p).", FIVE, "d a "),
+        (
+            "include('A',[d,m]).",
+            "tff(m,axiom,p). include('B/b.ax'). tff(n,axiom,p).",
+            FIVE,
+            "m d ",
+        ),
+        (
+            "include('A').",
+            "include('B/b.ax',[d]). tff(a,axiom,p).",
+            FIVE,
+            "d a ",
+        ),
         ("tff(x,axiom,p). include('A').", "", "", "x "),
         ("", "tff(", "tff(", ""),
     ];
@@ -110,7 +131,12 @@ fn the_first_refusal(rt: HostRuntime) -> Result<(), Fail> {
         ("include('A'). include('C').", "tff(", 0, "syntax A 1"),
         ("include('C'). tff(", "", 0, "syntax - 2"),
         ("tff( '", "", 0, "lex - 5"),
-        ("include('A',[m,z,y]).", "tff(m,axiom,p).", 0, "no such name A z"),
+        (
+            "include('A',[m,z,y]).",
+            "tff(m,axiom,p).",
+            0,
+            "no such name A z",
+        ),
         ("include('A',[z]). include('C').", "", 0, "no such name A z"),
         ("include('A',[z]).", "include('C').", 0, "no file C"),
         ("include('-').", "", 0, "too deep -"),
@@ -146,7 +172,11 @@ fn sixteen_includes_deep(rt: HostRuntime) -> Result<(), Fail> {
     let alloc = rt.alloc();
     let lowest = outcome(alloc, &mut [chain(alloc, b'q', b"tff(x,axiom,p).")?], "a")?;
     assert_eq!(rt; lowest.as_slice(), b"x ".as_slice());
-    let below = outcome(alloc, &mut [chain(alloc, b'q', b"tff(x,axiom,p). include(r).")?], "a")?;
+    let below = outcome(
+        alloc,
+        &mut [chain(alloc, b'q', b"tff(x,axiom,p). include(r).")?],
+        "a",
+    )?;
     assert_eq!(rt; below.as_slice(), b"too deep r".as_slice());
     Ok(())
 }
@@ -182,7 +212,11 @@ fn libraries_in_order(rt: HostRuntime) -> Result<(), Fail> {
     assert!(rt; !roots.drop_last());
     let first: Boxed = Box::new(alloc, library(alloc, &[("-", "include('A').")], 0)?)?;
     assert!(rt; roots.push(first).is_ok());
-    let others = library(alloc, &[("-", "tff(x,axiom,p)."), ("A", "tff(y,axiom,p).")], 3)?;
+    let others = library(
+        alloc,
+        &[("-", "tff(x,axiom,p)."), ("A", "tff(y,axiom,p).")],
+        3,
+    )?;
     let second: Boxed = Box::new(alloc, others)?;
     assert!(rt; roots.push(second).is_ok());
     let name = Text::from_bytes(alloc, b"-")?;
@@ -192,7 +226,12 @@ fn libraries_in_order(rt: HostRuntime) -> Result<(), Fail> {
     let mut bytes = b"<".to_vec(alloc)?;
     assert!(rt; matches!(&roots.load(&other, 3, &mut bytes), Ok(Found::Here)));
     assert_eq!(rt; bytes.as_slice(), b"<tff(".as_slice());
-    assert!(rt; matches!(&load_one(alloc, &mut roots, &other), Err(GatherError::ReadFault)));
+    assert!(rt;
+        matches!(
+            &load_one(alloc, &mut roots, &other),
+            Err(GatherError::ReadFault)
+        )
+    );
     assert_eq!(rt; roots.len(), 2);
     if 1 < roots.len() {
         assert_eq!(rt; (roots.faults(0), roots.faults(1)), (0, 1));
@@ -260,7 +299,12 @@ fn a_library_that_changes(rt: HostRuntime) -> Result<(), Fail> {
     assert_eq!(rt; twice.as_slice(), b"x x ".as_slice());
     let mut bytes = b"<".to_vec(alloc)?;
     let name = Text::from_bytes(alloc, b"-")?;
-    assert!(rt; matches!(&load_first(&mut libraries, &name, 2, &mut bytes), Ok(Found::Here)));
+    assert!(rt;
+        matches!(
+            &load_first(&mut libraries, &name, 2, &mut bytes),
+            Ok(Found::Here)
+        )
+    );
     assert_eq!(rt; bytes.as_slice(), b"<tff".as_slice());
     Ok(())
 }

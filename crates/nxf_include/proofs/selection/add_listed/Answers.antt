@@ -12,18 +12,20 @@ pub loop-statement-preserved-in-Continue-branch-2 : goal.loop-statement-preserve
 loop-statement-preserved-in-Continue-branch-2 c =
     let p = is_listed c.args.names.now in
     let rest = into_iter_items c.next.new.self in
-    let listed : p c.in-Some.statement ≡ true = sym (c.is_among.ensures c.args.names.now c.in_ok-listed.ensures) ∙ c.if-is_among.true in
-    (added_next p p c.in-Some.statement rest _ c.in-Some.ensures.steps.0 c.loop-statement.into _ _ listed c.in_ok-keep.ensures.added c.loop-statement.invariant.0,
-     λ name. found_next p (is_named name) c.in-Some.statement rest _ c.in-Some.ensures.steps.0 (contains same_text c.loop-statement.found name) _ _ listed (c.in_ok-keep.ensures.found name) (c.loop-statement.invariant.1 name))
+    let listed : p c.in-Some.statement ≡ true = sym (c.is_among.ensures c.args.names.now c.in_ok-listed.ensures) ∙ c.if-is_among.true in (
+      added_next p p c.in-Some.statement rest _ c.in-Some.ensures.steps.0 c.loop-statement.into _ _ listed c.in_ok-keep.ensures.added c.loop-statement.invariant.0,
+      λ name. found_next p (is_named name) c.in-Some.statement rest _ c.in-Some.ensures.steps.0 (contains same_text c.loop-statement.found name) _ _ listed (c.in_ok-keep.ensures.found name) (c.loop-statement.invariant.1 name),
+    )
 
 pub loop-statement-preserved : goal.loop-statement-preserved
 loop-statement-preserved c =
     let p = is_listed c.args.names.now in
     let rest = into_iter_items c.next.new.self in
     let unlisted : p c.in-Some.statement ≡ false = sym (c.is_among.ensures c.args.names.now c.in_ok-listed.ensures) ∙ c.if-is_among.false in
-    let same = sym (kept_not p p c.in-Some.statement rest _ c.in-Some.ensures.steps.0 unlisted) in
-    (ap (λ ss. c.loop-statement.into ++ ss) same ∙ c.loop-statement.invariant.0,
-     λ name. ap (λ ss. contains same_text c.loop-statement.found name || list_any (is_named name) ss) same ∙ c.loop-statement.invariant.1 name)
+    let same = sym (kept_not p p c.in-Some.statement rest _ c.in-Some.ensures.steps.0 unlisted) in (
+      ap (λ ss. c.loop-statement.into ++ ss) same ∙ c.loop-statement.invariant.0,
+      λ name. ap (λ ss. contains same_text c.loop-statement.found name || list_any (is_named name) ss) same ∙ c.loop-statement.invariant.1 name,
+    )
 
 pub returns-clause-found : goal.returns-clause-found
 returns-clause-found c = λ name.

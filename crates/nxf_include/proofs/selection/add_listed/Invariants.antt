@@ -11,4 +11,4 @@ abbrev pub invariant-loop-statement : goal.invariant-loop-statement
 invariant-loop-statement l =
     (l.into ++ filter (is_listed l.names) (into_iter_items l.statement-iterator) ≡ l.fn.into ++ filter (is_listed l.names) l.fn.statements)
     × ((name : List ℕ) → (contains same_text l.found name || list_any (is_named name) (filter (is_listed l.names) (into_iter_items l.statement-iterator)))
-        ≡ list_any (is_named name) (filter (is_listed l.names) l.fn.statements))
+    ≡ list_any (is_named name) (filter (is_listed l.names) l.fn.statements))

@@ -12,8 +12,9 @@ returns-in-Some-missing c =
 
 pub returns-in-Ok-add_listed : goal.returns-in-Ok-add_listed
 returns-in-Ok-add_listed c =
-    let names = c.as_slice-names.result.now in
-    (filter (is_listed names) c.args.statements,
-     selected_ok c.args.file.now c.args.names.now names c.args.statements (c.in-Some.is ∙ ap Some (sym c.as_slice-names.ensures))
-         (c.in-None.ensures (filter (is_listed names) c.args.statements) c.in-Ok-add_listed.ensures.found),
-     c.in-Ok-add_listed.ensures.added)
+    let names = c.as_slice-names.result.now in (
+      filter (is_listed names) c.args.statements,
+      selected_ok c.args.file.now c.args.names.now names c.args.statements (c.in-Some.is ∙ ap Some (sym c.as_slice-names.ensures))
+          (c.in-None.ensures (filter (is_listed names) c.args.statements) c.in-Ok-add_listed.ensures.found),
+      c.in-Ok-add_listed.ensures.added,
+    )
