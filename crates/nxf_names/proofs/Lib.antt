@@ -4,3 +4,4 @@ pub mod PlaceLemmas
 pub mod Noted
 pub mod Asked
 pub mod TablesLaw
+pub mod Small

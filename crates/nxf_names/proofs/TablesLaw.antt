@@ -27,7 +27,8 @@ use Rattle.nxf_names.specs.Tables.{uses_in, sort_texts, Seen, nothing, and_occur
 use Rattle.nxf_names.specs.TablesOf.{AreTablesOf}
 use Rattle.nxf_names.proofs.Noted.{texts_noted, symbols_noted, firsts-mapped, type_first, texts_of, seen_symbols, seen_individual, seen_plain, seen_indexes, named_texts}
 
-sorts_are : (ss : List Statement) → declared_sorts ss ≡ map User (sort_texts ss)
+-- the declared sorts by their texts
+pub sorts_are : (ss : List Statement) → declared_sorts ss ≡ map User (sort_texts ss)
 sorts_are [] = refl
 sorts_are (Annotated name role (IsTyping (Sort s)) ∷ ss) = ap (λ l. User s ∷ l) (sorts_are ss)
 sorts_are (Annotated name role (IsTyping (Symbol f args gives)) ∷ ss) = sorts_are ss

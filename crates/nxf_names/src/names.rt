@@ -1,6 +1,6 @@
 //! The signature of a file, with the number of each name.
 
-ghost use Rattle.std.specs.Prelude.{◌≡◌, IfOk, Ok, is_some};
+ghost use Rattle.std.specs.Prelude.{◌≡◌, ◌+◌, ◌^◌, ◌≤◌, length, IfOk, Ok, is_some};
 ghost use Rattle.std.specs.Option.{option_map};
 ghost use Rattle.nxf_tree.specs.Counting.{has};
 ghost use Rattle.nxf_tree.specs.Signature.{same_sort, same_index, sort_names, index_names};
@@ -59,9 +59,10 @@ impl Names {
         &self.signature
     }
 
-    /// The signature alone.
+    /// The signature alone. Numbers of 32 bits are enough for it.
     pub fn into_signature(self) -> Signature
-        ensures { result ≡ self.signature }
+        ensures value { result ≡ self.signature }
+        ensures small { length result.sorts + length result.symbols + length result.indexes ≤ 2 ^ 31 }
     {
         self.signature
     }

@@ -2,3 +2,10 @@ pub mod ScopeLemmas
 pub mod UseLemmas
 pub mod TermLemmas
 pub mod FormulaLemmas
+pub mod TypingLemmas
+pub mod StatementLemmas
+pub mod SameFaults
+pub mod TypedLaw
+pub mod CheckLemmas
+pub mod RegularNames
+pub mod WellFormedLaw

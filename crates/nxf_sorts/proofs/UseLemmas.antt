@@ -73,7 +73,7 @@ sorts_length : {A B : Type 0} (g : A → B) (xs : List A) → length (map g xs) 
 sorts_length g [] = refl
 sorts_length g (x ∷ xs) = ap suc (sorts_length g xs)
 
-some_mapped : {A B : Type 0} (g : A → B) (o : Option A) → is_some (option_map g o) ≡ is_some o
+pub some_mapped : {A B : Type 0} (g : A → B) (o : Option A) → is_some (option_map g o) ≡ is_some o
 some_mapped g None = refl
 some_mapped g (Some x) = refl
 

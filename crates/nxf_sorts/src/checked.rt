@@ -14,9 +14,9 @@ use std::marker::Model;
 /// each formula has a named form, which is closed and well sorted over the signature.
 #[derive(Drop)]
 pub struct Checked {
-    signature: Signature,
-    formulas: List<Numbered>,
-    depth: usize,
+    pub(crate) signature: Signature,
+    pub(crate) formulas: List<Numbered>,
+    pub(crate) depth: usize,
 }
 
 impl Model for Checked {

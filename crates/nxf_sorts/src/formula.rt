@@ -29,7 +29,7 @@ fn boxed_node(alloc: Global, node: Node) -> Result<Boxed<Node>, Fault>
 }
 
 /// The fault of a sort that the file has not.
-fn unknown_sort(alloc: Global, sort: &SortName) -> Fault
+pub fn unknown_sort(alloc: Global, sort: &SortName) -> Fault
     ensures { IsFault (Some (UnknownSort, sort_text sort.now)) result }
 {
     match sort {
@@ -39,7 +39,7 @@ fn unknown_sort(alloc: Global, sort: &SortName) -> Fault
 }
 
 /// The number of a sort, or None where the file has not got it.
-fn found_sort(names: &Names, sort: &SortName) -> Option<u32>
+pub fn found_sort(names: &Names, sort: &SortName) -> Option<u32>
     ensures { MatchOption result ((modal_language names.now.signature).knows_sort sort.now ≡ false) (λ k. Finds names.now.signature sort.now k) }
 {
     names.sort(sort)

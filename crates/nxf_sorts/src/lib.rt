@@ -8,7 +8,12 @@ mod fault;
 mod formula;
 mod node;
 mod number;
+mod overrides;
+mod sort_check;
+mod statements;
+mod typing;
 
 pub use checked::Checked;
 pub use error::SortError;
 pub use node::{NTerm, Node, Numbered};
+pub use sort_check::check;

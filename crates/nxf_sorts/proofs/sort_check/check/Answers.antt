@@ -1,0 +1,33 @@
+use Rattle.std.proofs.Common.{◌≡◌, ◌+◌, ◌^◌, ◌≤◌, length, refl, ap, ◌∙◌, sym, subst, arith}
+use Rattle.logic_spec.specs.Asked.{asked_by}
+use Rattle.nxf_signs.specs.declared.sign.Profile.TheVariants as profiles
+use Rattle.nxf_grammar.specs.Profiles.{allowed_in, most_arguments}
+use Rattle.nxf_tree.specs.declared.tree.Signature.{Signature}
+use Rattle.nxf_tree.specs.FileDepth.{statement_list_depth}
+use Rattle.nxf_tree.specs.SignatureOf.{signature_of}
+use Rattle.nxf_meaning.proofs.ProfileLaw.{well-sorted}
+use Rattle.nxf_sorts.specs.Checked.{IsChecked}
+use Rattle.nxf_sorts.proofs.CheckLemmas.{all_sorted, depth_is, few_statements}
+use Rattle.nxf_sorts.proofs.WellFormedLaw.{well_formed}
+use Rattle.nxf_sorts.proofs.sort_check.check.Goals as goal
+
+most : (allowed_in profiles.Problem).arguments ≡ 1000
+unfolding most_arguments
+most = refl
+
+pub number_file-requires-clause-few : goal.number_file-requires-clause-few
+number_file-requires-clause-few c = omega (arith, few_statements c.args.file.now.statements, c.requires.weight)
+
+pub invariant_of-result : goal.invariant_of-result
+invariant_of-result c =
+    let spec = asked_by c.args.spec.now in
+    let file = c.args.file.now in
+    let sig = signature_of spec file in
+    let is : c.into_signature.result ≡ sig = c.into_signature.ensures.value ∙ c.in-Ok.ensures.signature in
+    let small = subst (λ (s : Signature). length s.sorts + length s.symbols + length s.indexes ≤ 2 ^ 31) is c.into_signature.ensures.small in
+    let deep : c.greatest_depth.result ≡ statement_list_depth file.statements = omega (arith, c.greatest_depth.ensures, ap statement_list_depth c.as_slice.ensures, c.requires.depth) in
+    subst (λ s. IsChecked s c.in-Ok-number_file.formulas c.greatest_depth.result) (sym is) (record {
+      well_formed = well_formed (allowed_in profiles.Problem) most spec file c.requires.spec c.requires.regular c.in-Ok-number_file.ensures.0 small;
+      sorted = all_sorted sig 1 file.statements c.in-Ok-number_file.formulas (well-sorted spec file c.in-Ok-number_file.ensures.0) c.in-Ok-number_file.ensures.1;
+      deepest = depth_is sig file.statements c.in-Ok-number_file.formulas c.greatest_depth.result deep c.in-Ok-number_file.ensures.1;
+    })

@@ -1,0 +1,114 @@
+//! The sort check of a file.
+
+ghost use Rattle.std.specs.Prelude.{◌≡◌, ◌-◌, ◌^◌, ◌<◌, ◌≤◌, min, max, length, MatchResult, IfOk, Ok, None, Some};
+ghost use Rattle.nxf_tree.specs.FileDepth.{statement_depth, statement_list_depth, file_depth};
+ghost use Rattle.nxf_tree.specs.Occurrences.{declared};
+ghost use Rattle.nxf_tree.specs.SignatureOf.{firsts, same_symbol, signature_of};
+ghost use Rattle.nxf_tree.specs.SortFaults.{sort_fault_of};
+ghost use Rattle.nxf_tree.specs.Specification.{spec_of};
+ghost use Rattle.logic_spec.specs.Asked.{asked_by};
+ghost use Rattle.nxf_tree.specs.Weight.{file_weight};
+ghost use Rattle.nxf_signs.specs.declared.sign.Profile.TheVariants as profiles;
+ghost use Rattle.nxf_statements.specs.Regular.{IsRegular};
+ghost use Rattle.nxf_grammar.specs.Profiles.{allowed_in};
+ghost use Rattle.nxf_sorts.specs.NamedForm.{all_named, formulas_of};
+ghost use Rattle.nxf_sorts.specs.Judging.{IsFileFault};
+
+use crate::checked::Checked;
+use crate::error::SortError;
+use crate::node::Numbered;
+use crate::overrides::judge_overrides;
+use crate::statements::number_statements;
+use crate::typing::judge_typings;
+use logic_spec::Spec;
+use nxf_base::{List, Memory};
+use nxf_names::Names;
+use nxf_tree::{Body, File, Statement};
+use std::alloc::Global;
+
+/// The depth of a statement's formula, or 0 where it has none.
+fn depth_of(statement: &Statement) -> usize
+    ensures { result ≡ min (statement_depth statement.now) (2 ^ 64 - 1) }
+{
+    match statement {
+        Statement::Annotated {
+            name: _,
+            role: _,
+            body,
+        } => match body {
+            Body::Formula(formula) => formula.depth(),
+            Body::Typing(_) => 0,
+            Body::Logic(_) => 0,
+        },
+        Statement::Include { file: _, names: _ } => 0,
+    }
+}
+
+fn larger(a: usize, b: usize) -> usize
+    ensures { result ≡ max a b }
+{
+    if a < b { b } else { a }
+}
+
+/// The greatest depth of the formulas of statements.
+fn greatest_depth(statements: &[Statement]) -> usize
+    ensures { result ≡ min (statement_list_depth statements.now) (2 ^ 64 - 1) }
+{
+    let mut deepest = 0;
+    for statement in statements {
+        deepest = larger(deepest, depth_of(statement));
+    }
+    deepest
+}
+
+/// The formulas of a file with numbers for names; or the first fault of its type statements, formulas and overrides.
+fn number_file(
+    alloc: Global,
+    names: &Names,
+    file: &File,
+    spec: &Spec,
+) -> Result<List<Numbered>, SortError>
+    requires signature { names.now.signature ≡ signature_of (asked_by spec.now) file.now }
+    requires declared { names.now.declared ≡ firsts same_symbol (declared file.now.statements) }
+    requires few { length file.now.statements < 2 ^ 31 }
+    ensures { MatchResult result (λ ns. (sort_fault_of (asked_by spec.now) file.now ≡ None) × (all_named (signature_of (asked_by spec.now) file.now) ns ≡ Some (formulas_of file.now)))
+        (λ e. IsFileFault (sort_fault_of (asked_by spec.now) file.now) e) }
+{
+    let statements = file.statements.as_slice();
+    match judge_typings(alloc, names, statements) {
+        Err(error) => Err(error),
+        Ok(()) => match number_statements(alloc, names, statements) {
+            Err(error) => Err(error),
+            Ok(formulas) => match judge_overrides(alloc, names, spec.place(), spec.overrides()) {
+                Err(error) => Err(error),
+                Ok(()) => Ok(formulas),
+            },
+        },
+    }
+}
+
+/// The sort check: formulas with numbers for names, over the signature of the file; or the first fault of its type
+/// statements, then of its formulas, then of the overrides of its logic statement. `spec` is what the logic statement
+/// says. There is no other error than that first fault and want of memory.
+pub fn check(alloc: Global, file: &File, spec: &Spec) -> Result<Checked, SortError>
+    requires spec { spec_of file.now ≡ Ok (asked_by spec.now) }
+    requires regular { IsRegular (allowed_in profiles.Problem) file.now }
+    requires depth { file_depth file.now ≤ 2001 }
+    requires weight { file_weight file.now ≤ 67108864 }
+    ensures judged { MatchResult result (λ c. sort_fault_of (asked_by spec.now) file.now ≡ None) (λ e. IsFileFault (sort_fault_of (asked_by spec.now) file.now) e) }
+    ensures signature { IfOk result (λ c. c.signature ≡ signature_of (asked_by spec.now) file.now) }
+    ensures formulas { IfOk result (λ c. all_named c.signature c.formulas ≡ Some (formulas_of file.now)) }
+{
+    let names = match Names::of(alloc, file, spec) {
+        Ok(names) => names,
+        Err(Memory) => return Err(SortError::Memory),
+    };
+    match number_file(alloc, &names, file, spec) {
+        Err(error) => Err(error),
+        Ok(formulas) => Ok(Checked {
+            signature: names.into_signature(),
+            formulas,
+            depth: greatest_depth(file.statements.as_slice()),
+        }),
+    }
+}
