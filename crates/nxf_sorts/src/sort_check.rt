@@ -8,6 +8,7 @@ ghost use Rattle.nxf_tree.specs.SortFaults.{sort_fault_of};
 ghost use Rattle.nxf_tree.specs.Specification.{spec_of};
 ghost use Rattle.logic_spec.specs.Asked.{asked_by};
 ghost use Rattle.nxf_tree.specs.Weight.{file_weight};
+ghost use Rattle.nxf_tree.specs.WellFormed.{IsWellFormed};
 ghost use Rattle.nxf_signs.specs.declared.sign.Profile.TheVariants as profiles;
 ghost use Rattle.nxf_statements.specs.Regular.{IsRegular};
 ghost use Rattle.nxf_grammar.specs.Profiles.{allowed_in};
@@ -97,6 +98,7 @@ pub fn check(alloc: Global, file: &File, spec: &Spec) -> Result<Checked, SortErr
     requires weight { file_weight file.now ≤ 67108864 }
     ensures judged { MatchResult result (λ c. sort_fault_of (asked_by spec.now) file.now ≡ None) (λ e. IsFileFault (sort_fault_of (asked_by spec.now) file.now) e) }
     ensures signature { IfOk result (λ c. c.signature ≡ signature_of (asked_by spec.now) file.now) }
+    ensures well_formed { IfOk result (λ c. IsWellFormed c.signature) }
     ensures formulas { IfOk result (λ c. all_named c.signature c.formulas ≡ Some (formulas_of file.now)) }
 {
     let names = match Names::of(alloc, file, spec) {

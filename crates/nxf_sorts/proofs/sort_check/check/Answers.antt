@@ -5,6 +5,7 @@ use Rattle.nxf_grammar.specs.Profiles.{allowed_in, most_arguments}
 use Rattle.nxf_tree.specs.declared.tree.Signature.{Signature}
 use Rattle.nxf_tree.specs.FileDepth.{statement_list_depth}
 use Rattle.nxf_tree.specs.SignatureOf.{signature_of}
+use Rattle.nxf_tree.specs.WellFormed.{IsWellFormed}
 use Rattle.nxf_meaning.proofs.ProfileLaw.{well-sorted}
 use Rattle.nxf_sorts.specs.Checked.{IsChecked}
 use Rattle.nxf_sorts.proofs.CheckLemmas.{all_sorted, depth_is, few_statements}
@@ -31,3 +32,9 @@ invariant_of-result c =
       sorted = all_sorted sig 1 file.statements c.in-Ok-number_file.formulas (well-sorted spec file c.in-Ok-number_file.ensures.0) c.in-Ok-number_file.ensures.1;
       deepest = depth_is sig file.statements c.in-Ok-number_file.formulas c.greatest_depth.result deep c.in-Ok-number_file.ensures.1;
     })
+
+pub returns-in-Ok-number_file-clause-well_formed : goal.returns-in-Ok-number_file-clause-well_formed
+returns-in-Ok-number_file-clause-well_formed c =
+    let is = c.into_signature.ensures.value ∙ c.in-Ok.ensures.signature in
+    let small = subst (λ (s : Signature). length s.sorts + length s.symbols + length s.indexes ≤ 2 ^ 31) is c.into_signature.ensures.small in
+    subst IsWellFormed (sym is) (well_formed (allowed_in profiles.Problem) most (asked_by c.args.spec.now) c.args.file.now c.requires.spec c.requires.regular c.in-Ok-number_file.ensures.0 small)
