@@ -33,7 +33,9 @@ fn failing_output(rt: HostRuntime) -> Result<(), Fail> {
     library.add(Text::from_bytes(alloc, b"-")?, PROBLEM)?;
     let boxed: Boxed = Box::new(alloc, library)?;
     let mut roots = Roots::new(alloc);
-    roots.push(boxed)?;
+    if roots.push(boxed).is_err() {
+        return Err(Fail::new("no memory"));
+    }
     for call in 1..60u64 {
         let mut out = MemorySink::new(alloc, 7);
         out.fail_at(call)?;

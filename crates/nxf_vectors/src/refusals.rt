@@ -430,7 +430,7 @@ tff(c,conjecture,p,[a(]).
             (
                 &[(
                     "-",
-                    "% \xc8
+                    "% \u{c8}
 tff(l,logic,$modal == [$modalities == $modal_system_K]).
 tff(c,conjecture,[.] p => p).
 ",
