@@ -10,9 +10,7 @@ use Rattle.nxf_tree.specs.Shapes.{Pair2}
 use Rattle.nxf_tree.specs.Signature.{is_constant, sort_at}
 use Rattle.nxf_tree.specs.Axioms.{world, element, value_exists, exists_at, elements_from, row_guards, under_guards}
 use Rattle.nxf_tree.specs.Embedding.{at_world}
-use Rattle.std.specs.List.{list_all}
 use Rattle.std.proofs.lemmas.List.{map_more, length-map, length-take-le}
-use Rattle.nxf_meaning.proofs.Types.{split}
 use Rattle.nxf_tree.specs.Names.{user_name, existence_name}
 use Rattle.nxf_tree.specs.Conditions.{argument_sorts}
 use Rattle.nxf_tree.specs.declared.tree.SymbolEntry.{SymbolEntry}
@@ -34,11 +32,6 @@ elements-next n = elements-more 0 n ∙ ap (λ j. elements_upto 0 n ++ element j
 pub at_world-append : (flexible : Bool) (w : Term) (xs ys : List Term) → at_world flexible w (xs ++ ys) ≡ at_world flexible w xs ++ ys
 at_world-append true w xs ys = refl
 at_world-append false w xs ys = refl
-
-pub member : {A : Type 0} (p : A → Bool) (xs : List A) (k : ℕ) (d : A) → k < length xs → list_all p xs ≡ true → p (get_or xs k d) ≡ true
-member p [] k d l h = absurd (omega arith)
-member p (x ∷ xs) zero d l h = (split _ _ h).0
-member p (x ∷ xs) (suc k) d l h = member p xs k d (omega arith) (split _ _ h).1
 
 guards-step : (sig : Signature) (k : ℕ) (x : SortName) (xs : List SortName) (s : SortName) (more : List Formula) → row_guards sig (suc k) (xs ++ s ∷ []) ≡ row_guards sig (suc k) xs ++ more → (b : Bool)
     → (if b then row_guards sig (suc k) (xs ++ s ∷ []) else exists_at x 0 k ∷ row_guards sig (suc k) (xs ++ s ∷ [])) ≡ (if b then row_guards sig (suc k) xs else exists_at x 0 k ∷ row_guards sig (suc k) xs) ++ more

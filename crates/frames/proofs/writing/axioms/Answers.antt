@@ -1,4 +1,4 @@
-use Rattle.std.proofs.Common.{append_assoc, ap, ◌∙◌}
+use Rattle.std.proofs.Common.{ap, ◌∙◌}
 use Rattle.std.proofs.lemmas.Grind.{take_at_read}
 use Rattle.std.proofs.lemmas.List.{take_all}
 use Rattle.nxf_tree.specs.Axioms.{frame_axioms}
