@@ -1,11 +1,7 @@
-pub mod Cases
 pub mod Declaring
-pub mod FirstForm
-pub mod Noting
 pub mod Printable
-pub mod WorkedCases
 pub mod TableSteps
 pub mod Numbering
 pub mod Choosing
 pub mod Read
-pub mod WorkedProblems
+pub mod WorkedCases

@@ -6,18 +6,9 @@
 mod added;
 mod chosen;
 mod declare;
-mod first;
-mod occurrences;
 mod tables;
-mod translation;
 mod whole;
 
 pub use declare::declarations;
-pub use first::embed_first;
-pub use occurrences::{has_modality, predicates};
 pub use tables::classical_signature;
-pub use translation::{Place, translate};
 pub use whole::embed;
-
-#[cfg(test)]
-mod tests;
