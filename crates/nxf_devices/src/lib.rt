@@ -2,10 +2,10 @@
 #![tactic(auto)]
 
 mod dir_library;
+mod program;
 mod read;
-mod start;
 mod std_sink;
 mod stdin_library;
 mod words;
 
-pub use start::start;
+pub use program::start;

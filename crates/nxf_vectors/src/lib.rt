@@ -10,4 +10,6 @@ mod outcome;
 #[cfg(test)]
 mod refusals;
 #[cfg(test)]
+mod sorts;
+#[cfg(test)]
 mod specification;
