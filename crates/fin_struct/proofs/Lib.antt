@@ -1,3 +1,4 @@
 pub mod CellsLemmas
+pub mod LimitsLemmas
 pub mod PlacesLemmas
-pub mod TrueRowsLemmas
+pub mod RowListsLemmas

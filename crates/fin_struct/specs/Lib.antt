@@ -1,3 +1,4 @@
 pub mod Cells
+pub mod Limits
 pub mod Places
-pub mod TrueRows
+pub mod RowLists

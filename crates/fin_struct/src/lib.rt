@@ -2,15 +2,19 @@
 //! signature. Each keeps its tables in one flat list of cells; contracts see the lists of rows of the definitions.
 #![tactic(auto)]
 
-ghost use Rattle.fin_struct.specs.TrueRows.{RowsTell, RowsDetermine};
+ghost use Rattle.fin_struct.specs.RowLists.{ListsTell, ListsFit, ListsDetermine};
 
 mod grid;
+mod limits;
 mod places;
 
 pub use grid::{Grid, GridShape};
+pub use limits::{cells, ShapeError};
 
-/// The list of a predicate's true rows says what its cells say, and nothing less.
-pub fn true_rows_law()
-    ensures tell { RowsTell }
-    ensures determine { RowsDetermine }
+/// The lists of rows of a table say what its cells say, and nothing less; they stand in row-major order without repeats,
+/// so that equal lists are of equal tables.
+pub fn row_lists_law()
+    ensures tell { ListsTell }
+    ensures fit { ListsFit }
+    ensures determine { ListsDetermine }
 {}
