@@ -2,3 +2,4 @@ pub mod CellsLemmas
 pub mod LimitsLemmas
 pub mod PlacesLemmas
 pub mod RowListsLemmas
+pub mod StructureLemmas

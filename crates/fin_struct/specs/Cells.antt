@@ -1,5 +1,6 @@
 -- Tables of cells, as contracts see them.
 use Rattle.std.specs.Prelude.{◌≡◌, ℕ, zero, suc, ◌+◌, ◌<◌, List, [], ◌∷◌, take, drop, replicate, slice_index, slice_index_or, slice_set, Option, None, Some}
+use Rattle.nxf_tree.specs.Rows.{Shape}
 use Rattle.fin_struct.specs.declared.grid.GridShape.{GridShape}
 use Rattle.fin_struct.specs.Places.{rows_count, place}
 
@@ -29,6 +30,10 @@ cell table row = slice_index table.cells (place table.sizes row)
 -- the table with one cell changed
 abbrev pub with_cell : CellTable → List ℕ → ℕ → CellTable
 with_cell table row value = record { sizes = table.sizes; values = table.values; cells = slice_set table.cells (place table.sizes row) value }
+
+-- what the table is, without where its list of sizes lies
+abbrev pub grid_shape : GridShape → Shape
+grid_shape shape = record { sizes = shape.sizes.items; values = shape.values }
 
 abbrev pub shape_rows : GridShape → ℕ
 shape_rows shape = rows_count shape.sizes.items

@@ -2,3 +2,4 @@ pub mod Cells
 pub mod Limits
 pub mod Places
 pub mod RowLists
+pub mod StructureView

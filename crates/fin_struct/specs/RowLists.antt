@@ -1,8 +1,8 @@
 -- The lists of rows that tables of cells stand for: the tables of the definitions.
-use Rattle.std.specs.Prelude.{◌≡◌, ℕ, ◌<◌, nat_eq, if◌then◌else◌, List, [], ◌∷◌, length, slice_index, Option, None, Some}
+use Rattle.std.specs.Prelude.{◌≡◌, ℕ, ◌<◌, nat_eq, if◌then◌else◌, List, [], ◌∷◌, map, length, replicate, slice_index, Option, None, Some}
 use Rattle.nxf_tree.specs.Rows.{Table, Rows, Values, Shape, all_rows, has_row, value_of_row, beside, IsTable}
 use Rattle.fin_struct.specs.Places.{rows_count, InRange}
-use Rattle.fin_struct.specs.Cells.{CellTable, bound_of, cell}
+use Rattle.fin_struct.specs.Cells.{CellTable, bound_of, cell, table_at}
 
 -- of the rows, those whose cell is 1
 abbrev pub marked : List (List ℕ) → List ℕ → List (List ℕ)
@@ -31,6 +31,22 @@ entry (Values rows) row = value_of_row row rows
 pub record IsFilled (table : CellTable) : Type 0 where
   pub count : length table.cells ≡ rows_count table.sizes
   pub below : (k : ℕ) → k < length table.cells → slice_index table.cells k < bound_of table.values
+
+-- each of the tables is filled
+abbrev pub AreFilled : List CellTable → Type 0
+AreFilled tables = (t : ℕ) → t < length tables → IsFilled (table_at tables t)
+
+-- the shapes of tables
+abbrev pub shapes_of : List CellTable → List Shape
+shapes_of = map shape_of
+
+-- a table of this shape, all cells 0
+abbrev pub blank : Shape → CellTable
+blank shape = record { sizes = shape.sizes; values = shape.values; cells = replicate (rows_count shape.sizes) 0 }
+
+-- tables of these shapes, all cells 0
+abbrev pub blanks : List Shape → List CellTable
+blanks = map blank
 
 -- the list has at a row what its cell is
 abbrev pub ListsTell : Type 0

@@ -2,14 +2,18 @@
 //! signature. Each keeps its tables in one flat list of cells; contracts see the lists of rows of the definitions.
 #![tactic(auto)]
 
+ghost use Rattle.fin_struct.specs.StructureView.{StructureLaw};
 ghost use Rattle.fin_struct.specs.RowLists.{ListsTell, ListsFit, ListsDetermine};
 
 mod grid;
 mod limits;
 mod places;
+mod shapes;
+mod structure;
 
 pub use grid::{Grid, GridShape};
 pub use limits::{cells, ShapeError};
+pub use structure::Structure;
 
 /// The lists of rows of a table say what its cells say, and nothing less; they stand in row-major order without repeats,
 /// so that equal lists are of equal tables.
@@ -17,4 +21,9 @@ pub fn row_lists_law()
     ensures tell { ListsTell }
     ensures fit { ListsFit }
     ensures determine { ListsDetermine }
+{}
+
+/// A structure for a classical signature is over it, as the definitions have it.
+pub fn structure_law()
+    ensures { StructureLaw }
 {}

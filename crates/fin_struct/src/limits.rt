@@ -6,7 +6,6 @@ ghost use Rattle.fin_struct.specs.Limits.{cells_of, IsWithin, IsRefusal};
 
 use nxf_base::List;
 use nxf_tree::ClassicalSignature;
-use std::alloc::AllocError;
 
 /// Why there is no structure with given sizes: the number of worlds is above 65,535, or the number of cells is above
 /// 4,194,304, or there is no memory.
@@ -15,12 +14,6 @@ pub enum ShapeError {
     TooManyWorlds(u64),
     TooBig(u64),
     Memory,
-}
-
-impl From<AllocError> for ShapeError {
-    fn from(_: AllocError) -> Self {
-        ShapeError::Memory
-    }
 }
 
 /// The size of the sort with the number, or 0 where there is none.

@@ -1,0 +1,5 @@
+use Rattle.fin_struct.proofs.StructureLemmas.{structure-law}
+use Rattle.fin_struct.proofs.structure_law.Goals as goal
+
+pub returns : goal.returns
+returns c = structure-law
