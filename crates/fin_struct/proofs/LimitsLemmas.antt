@@ -1,6 +1,6 @@
 -- Sizes of sorts, and sums of products that stop at a number.
-use Rattle.std.proofs.Common.{◌≡◌, ℕ, zero, suc, ◌+◌, ◌*◌, ◌<◌, ◌≤◌, List, [], ◌∷◌, map, length, min, drop, get_or, refl, sym, ◌∙◌, ap, arith}
-use Rattle.std.proofs.lemmas.List.{drop_more, drop_all, get_or-map, length-map}
+use Rattle.std.proofs.Common.{◌≡◌, ℕ, zero, suc, ◌+◌, ◌*◌, ◌<◌, ◌≤◌, List, [], ◌∷◌, map, length, min, drop, get_or, refl, arith}
+use Rattle.std.proofs.lemmas.List.{drop_more, get_or-map, length-map}
 use Rattle.nxf_tree.specs.declared.tree.TableEntry.{TableEntry}
 use Rattle.nxf_tree.specs.Rows.{size_at}
 use Rattle.nxf_tree.specs.Structures.{table_shapes}

@@ -1,15 +1,15 @@
 -- The lists of rows against the cells.
-use Rattle.std.proofs.Common.{◌≡◌, ℕ, zero, suc, ◌+◌, ◌*◌, ◌%◌, ◌/◌, ◌-◌, ◌<◌, inl, inr, Bool, true, false, if◌then◌else◌, nat_eq, List, [], ◌∷◌, ◌++◌, map, length, get_or, Option, None, Some, refl, sym, ◌∙◌, ap, ap₂, arith}
+use Rattle.std.proofs.Common.{◌≡◌, ℕ, zero, suc, ◌+◌, ◌*◌, ◌%◌, ◌/◌, ◌-◌, ◌<◌, inl, inr, false, if◌then◌else◌, nat_eq, List, [], ◌∷◌, map, length, get_or, Option, None, Some, refl, sym, ◌∙◌, ap, ap₂, arith}
 use Rattle.std.proofs.lemmas.Nat.{div_below, mod_below, div-add-mod'}
-use Rattle.std.proofs.lemmas.Bool.{eqb-true, eq-eqb, cases_Bool, cases_lt}
+use Rattle.std.proofs.lemmas.Bool.{cases_Bool, cases_lt}
 use Rattle.std.proofs.lemmas.List.{same_lists, length-append, length-map, get_or-map, get_or_append_left, get_or-append-add, get_or-append_right}
 use Rattle.nxf_tree.specs.Names.{same_text}
-use Rattle.nxf_tree.specs.Rows.{Table, Rows, Values, Shape, numbers_below, in_front, all_rows, has_row, those_in, value_of_row, beside, AreRows, AllBelow, AreValues, IsTable, IsTableOf}
+use Rattle.nxf_tree.specs.Rows.{Table, Shape, numbers_below, in_front, all_rows, has_row, those_in, value_of_row, beside, AllBelow, IsTableOf}
 use Rattle.nxf_meaning.proofs.Spelling.{same_text-refl, same_text-true, never}
 use Rattle.fin_struct.specs.Places.{rows_count, InRange, place}
-use Rattle.fin_struct.specs.Cells.{CellTable, bound_of, cell}
-use Rattle.fin_struct.specs.RowLists.{marked, rows_of, listed, shape_of, entry, IsFilled, ListsTell, ListsFit, ListsDetermine}
-use Rattle.fin_struct.proofs.PlacesLemmas.{place_below, place_injective}
+use Rattle.fin_struct.specs.Cells.{CellTable, bound_of}
+use Rattle.fin_struct.specs.RowLists.{marked, rows_of, listed, entry, IsFilled, ListsTell, ListsFit, ListsDetermine}
+use Rattle.fin_struct.proofs.PlacesLemmas.{place_below}
 
 -- the row at a place
 abbrev pub row_at : List ℕ → ℕ → List ℕ

@@ -1,14 +1,13 @@
 -- Structures as contracts see them, against those of the definitions.
-use Rattle.std.proofs.Common.{◌≡◌, ℕ, zero, suc, ◌+◌, ◌<◌, ◌≤◌, inl, inr, List, [], ◌∷◌, map, length, set, get_or, min, replicate, Option, None, Some, refl, sym, ◌∙◌, ap, ap₂, arith, length-set}
+use Rattle.std.proofs.Common.{◌≡◌, ℕ, zero, suc, ◌+◌, ◌<◌, ◌≤◌, inl, inr, List, [], ◌∷◌, map, length, set, get_or, Option, None, Some, refl, sym, ◌∙◌, ap, arith, length-set}
 use Rattle.std.specs.Option.{option_map}
 use Rattle.std.proofs.lemmas.Bool.{cases_eq}
 use Rattle.std.proofs.lemmas.Grind.{get_or-set_at}
-use Rattle.std.proofs.lemmas.List.{get_or-map, length-map, get_or-set_other, length-replicate, get_or-replicate, same_lists}
+use Rattle.std.proofs.lemmas.List.{get_or-set_other, length-replicate, get_or-replicate}
 use Rattle.nxf_tree.specs.declared.tree.ClassicalSignature.{ClassicalSignature}
 use Rattle.nxf_tree.specs.declared.tree.TableEntry.{TableEntry}
-use Rattle.nxf_tree.specs.declared.tree.SortName.{SortName}
-use Rattle.nxf_tree.specs.Rows.{Table, Shape, size_at, AreSizes, IsTable, AreTables}
-use Rattle.nxf_tree.specs.Structures.{table_shape, table_shapes}
+use Rattle.nxf_tree.specs.Rows.{Shape, size_at, AreSizes, AreTables}
+use Rattle.nxf_tree.specs.Structures.{table_shapes}
 use Rattle.fin_struct.specs.declared.grid.GridShape.{GridShape}
 use Rattle.fin_struct.specs.Places.{rows_count, place, InRange}
 use Rattle.fin_struct.specs.Cells.{CellTable, bound_of, grid_shape, no_table, cell, with_cell, table_at, total_rows, shape_rows, blank_tables, AllPositive}

@@ -1,8 +1,7 @@
 -- The number of cells of a structure, and the limits on structures.
-use Rattle.std.specs.Prelude.{◌≡◌, ℕ, ◌+◌, ◌<◌, ◌≤◌, min, List, [], ◌∷◌, map, length, Option, None, Some, Result, Ok, Err}
+use Rattle.std.specs.Prelude.{◌≡◌, ℕ, ◌+◌, ◌<◌, ◌≤◌, min, List, [], ◌∷◌}
 use Rattle.nxf_tree.specs.declared.tree.ClassicalSignature.{ClassicalSignature}
-use Rattle.nxf_tree.specs.declared.tree.TableEntry.{TableEntry}
-use Rattle.nxf_tree.specs.Rows.{Shape, size_at}
+use Rattle.nxf_tree.specs.Rows.{Shape}
 use Rattle.nxf_tree.specs.Structures.{table_shapes}
 use Rattle.fin_struct.specs.declared.limits.ShapeError.{ShapeError}
 use Rattle.fin_struct.specs.declared.limits.ShapeError.TheVariants.{TooManyWorlds, TooBig, Memory}

@@ -1,4 +1,4 @@
-use Rattle.std.proofs.Common.{◌≡◌, ◌*◌, min, get_or, arith, ◌∙◌}
+use Rattle.std.proofs.Common.{◌≡◌, get_or, arith, ◌∙◌}
 use Rattle.nxf_tree.specs.Rows.{size_at}
 use Rattle.fin_struct.proofs.LimitsLemmas.{rows_step}
 use Rattle.fin_struct.proofs.limits.table_rows.Goals as goal
