@@ -1,4 +1,5 @@
 pub mod CellsLemmas
+pub mod EqualStructures
 pub mod LimitsLemmas
 pub mod PlacesLemmas
 pub mod RowListsLemmas

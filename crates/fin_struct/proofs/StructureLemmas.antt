@@ -16,7 +16,7 @@ use Rattle.fin_struct.specs.Limits.{cells_in, cells_of, IsWithin}
 use Rattle.fin_struct.specs.StructureView.{StructureView, IsStructure, IsFor, GivesBelow, HasSorts, blank_structure, StructureLaw}
 use Rattle.fin_struct.proofs.RowListsLemmas.{lists-fit, lists-tell}
 
-filled_tail : (table : CellTable) (tables : List CellTable) → AreFilled (table ∷ tables) → AreFilled tables
+pub filled_tail : (table : CellTable) (tables : List CellTable) → AreFilled (table ∷ tables) → AreFilled tables
 filled_tail table tables f t h = f (suc t) (omega arith)
 
 pub are-tables : (tables : List CellTable) → AreFilled tables → AreTables (shapes_of tables) (map listed tables)

@@ -46,3 +46,9 @@ pub record HasSorts (csig : ClassicalSignature) : Type 0 where
 -- a structure for a classical signature is over it, as the definitions have it
 abbrev pub StructureLaw : Type 0
 StructureLaw = (csig : ClassicalSignature) (view : StructureView) → IsStructure view → IsFor csig view → IsOverClassical csig (classical_structure view)
+
+-- structures for one classical signature with equal lists of rows are equal
+abbrev pub StructuresDetermine : Type 0
+StructuresDetermine =
+    (csig : ClassicalSignature) (view other : StructureView) → IsStructure view → IsStructure other → IsFor csig view → IsFor csig other
+    → classical_structure view ≡ classical_structure other → view ≡ other

@@ -2,15 +2,17 @@
 //! signature. Each keeps its tables in one flat list of cells; contracts see the lists of rows of the definitions.
 #![tactic(auto)]
 
-ghost use Rattle.fin_struct.specs.StructureView.{StructureLaw};
+ghost use Rattle.fin_struct.specs.StructureView.{StructureLaw, StructuresDetermine};
 ghost use Rattle.fin_struct.specs.RowLists.{ListsTell, ListsFit, ListsDetermine};
 
+mod condition;
 mod grid;
 mod limits;
 mod places;
 mod shapes;
 mod structure;
 
+pub use condition::Condition;
 pub use grid::{Grid, GridShape};
 pub use limits::{cells, ShapeError};
 pub use structure::Structure;
@@ -23,7 +25,9 @@ pub fn row_lists_law()
     ensures determine { ListsDetermine }
 {}
 
-/// A structure for a classical signature is over it, as the definitions have it.
+/// A structure for a classical signature is over it, as the definitions have it, and no other structure for that signature
+/// has the same lists of rows.
 pub fn structure_law()
-    ensures { StructureLaw }
+    ensures over { StructureLaw }
+    ensures determine { StructuresDetermine }
 {}
