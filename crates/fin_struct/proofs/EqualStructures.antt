@@ -1,11 +1,10 @@
 -- Structures with equal lists of rows are equal.
-use Rattle.std.proofs.Common.{◌≡◌, ℕ, suc, ◌<◌, List, [], ◌∷◌, map, length, get_or, refl, sym, ◌∙◌, ap, ap₂, arith}
-use Rattle.nxf_tree.specs.declared.tree.ClassicalSignature.{ClassicalSignature}
+use Rattle.std.proofs.Common.{◌≡◌, ℕ, List, [], ◌∷◌, map, length, get_or, refl, sym, ◌∙◌, ap, ap₂, arith}
 use Rattle.nxf_tree.specs.Rows.{Table, Shape}
 use Rattle.nxf_tree.specs.Structures.{ClassicalStructure, table_shapes}
 use Rattle.fin_struct.specs.Cells.{CellTable}
 use Rattle.fin_struct.specs.RowLists.{listed, shape_of, AreFilled, shapes_of}
-use Rattle.fin_struct.specs.StructureView.{StructureView, IsStructure, IsFor, classical_structure, StructuresDetermine}
+use Rattle.fin_struct.specs.StructureView.{StructuresDetermine}
 use Rattle.fin_struct.proofs.RowListsLemmas.{lists-determine}
 use Rattle.fin_struct.proofs.StructureLemmas.{filled_tail, structure_view}
 

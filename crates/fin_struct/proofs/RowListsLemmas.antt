@@ -58,7 +58,7 @@ in_front-at [] rows i p h k = absurd (omega arith)
 in_front-at (x ∷ xs) rows zero p h k =
     let e : 0 * length rows + p ≡ p = omega arith in
     (rw e (get_or_append_left (map (λ row. x ∷ row) rows) (in_front xs rows) [] p (omega (arith, length-map rows (λ row. x ∷ row)))
-      ∙ get_or-map (λ row. x ∷ row) rows p [] [] k))
+    ∙ get_or-map (λ row. x ∷ row) rows p [] [] k))
 in_front-at (x ∷ xs) rows (suc i) p h k =
     let e : suc i * length rows + p ≡ length (map (λ row. x ∷ row) rows) + (i * length rows + p) = omega (arith, length-map rows (λ row. x ∷ row)) in
     (rw e (get_or-append-add (map (λ row. x ∷ row) rows) (in_front xs rows) (i * length rows + p) [] ∙ in_front-at xs rows i p (omega arith) k))
@@ -175,12 +175,12 @@ fit_of : (values : Option ℕ) (sizes cells : List ℕ) → length cells ≡ row
 fit_of None sizes cells len below =
     let long : length cells ≡ length (all_rows sizes) = omega (arith, len, length-all_rows sizes) in
     those_marked (marked (all_rows sizes) cells) (all_rows sizes) cells long (λ j h.
-        let in_count : j < rows_count sizes = omega (arith, length-all_rows sizes) in
-        let at = place-row_at sizes j in_count in
-        let in_range = row_at-in_range sizes j in_count in
-        let is = ap (λ (i : ℕ). get_or (all_rows sizes) i []) (sym at) ∙ all_rows-at sizes (row_at sizes j) in_range in
-        let has = has_once (all_rows sizes) cells (row_at sizes j) (place sizes (row_at sizes j)) long (once sizes (row_at sizes j) in_range) in
-        ap (λ (row : List ℕ). has_row row (marked (all_rows sizes) cells)) is ∙ has ∙ ap (λ (i : ℕ). nat_eq (get_or cells i 0) 1) at)
+    let in_count : j < rows_count sizes = omega (arith, length-all_rows sizes) in
+    let at = place-row_at sizes j in_count in
+    let in_range = row_at-in_range sizes j in_count in
+    let is = ap (λ (i : ℕ). get_or (all_rows sizes) i []) (sym at) ∙ all_rows-at sizes (row_at sizes j) in_range in
+    let has = has_once (all_rows sizes) cells (row_at sizes j) (place sizes (row_at sizes j)) long (once sizes (row_at sizes j) in_range) in
+    ap (λ (row : List ℕ). has_row row (marked (all_rows sizes) cells)) is ∙ has ∙ ap (λ (i : ℕ). nat_eq (get_or cells i 0) 1) at)
 fit_of (Some size) sizes cells len below = record {
   total = firsts (all_rows sizes) cells (omega (arith, len, length-all_rows sizes));
   below = seconds size (all_rows sizes) cells below;
@@ -221,8 +221,8 @@ lists-determine table other f g shapes lists =
     let sizes = ap (λ (s : Shape). s.sizes) shapes in
     let counts : rows_count table.sizes ≡ rows_count other.sizes = ap rows_count sizes in
     let cells = same_lists table.cells other.cells (f.count ∙ counts ∙ sym g.count) (λ j d below.
-        let in_count : j < rows_count table.sizes = omega (arith, f.count) in
-        any_default table.cells j d below
-        ∙ same_cell table other f g sizes lists j in_count
-        ∙ sym (any_default other.cells j d (omega (arith, g.count, counts)))) in
+    let in_count : j < rows_count table.sizes = omega (arith, f.count) in
+    any_default table.cells j d below
+    ∙ same_cell table other f g sizes lists j in_count
+    ∙ sym (any_default other.cells j d (omega (arith, g.count, counts)))) in
     same_table table other sizes (ap (λ (s : Shape). s.values) shapes) cells

@@ -1,5 +1,5 @@
-//! Finite structures of both kinds: Kripke structures over a signature, and classical structures over its classical
-//! signature. Each keeps its tables in one flat list of cells; contracts see the lists of rows of the definitions.
+//! Finite classical structures over a classical signature, whose tables stand in one flat list of cells: contracts see the
+//! cells by row, and the lists of rows of the definitions.
 #![tactic(auto)]
 
 ghost use Rattle.fin_struct.specs.StructureView.{StructureLaw, StructuresDetermine};
@@ -14,8 +14,11 @@ mod structure;
 
 pub use condition::Condition;
 pub use grid::{Grid, GridShape};
-pub use limits::{cells, ShapeError};
+pub use limits::{ShapeError, cells};
 pub use structure::Structure;
+
+#[cfg(test)]
+mod tests;
 
 /// The lists of rows of a table say what its cells say, and nothing less; they stand in row-major order without repeats,
 /// so that equal lists are of equal tables.

@@ -25,11 +25,7 @@ pub fn table_shapes(
     Ok(shapes)
 }
 
-fn table_shape(
-    alloc: Global,
-    table: &TableEntry,
-    sizes: &[u32],
-) -> Result<GridShape, AllocError>
+fn table_shape(alloc: Global, table: &TableEntry, sizes: &[u32]) -> Result<GridShape, AllocError>
     ensures { IfOk result (λ shape. grid_shape shape ≡ structures.table_shape sizes.now table.now) }
 {
     let values = values_size(sizes, table.gives);

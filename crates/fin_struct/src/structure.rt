@@ -8,7 +8,7 @@ ghost use Rattle.fin_struct.specs.Limits.{cells_of, IsWithin, IsRefusal};
 ghost use Rattle.fin_struct.specs.StructureView.{IsStructure, IsFor, HasSorts, blank_structure};
 
 use crate::grid::Grid;
-use crate::limits::{cells, check_limits, size_at, ShapeError};
+use crate::limits::{ShapeError, cells, check_limits, size_at};
 use crate::shapes::table_shapes;
 use nxf_base::List;
 use nxf_tree::ClassicalSignature;
@@ -106,11 +106,7 @@ impl Structure {
 }
 
 /// The structure with all cells 0, within the limits.
-fn make(
-    alloc: Global,
-    over: &ClassicalSignature,
-    sizes: &[u32],
-) -> Result<Structure, AllocError>
+fn make(alloc: Global, over: &ClassicalSignature, sizes: &[u32]) -> Result<Structure, AllocError>
     requires has_sorts { HasSorts over.now }
     requires sizes { rows.AreSizes over.now.sorts sizes.now }
     requires within { IsWithin (rows.size_at sizes.now 0) (cells_of over.now sizes.now) }
