@@ -17,6 +17,9 @@ pub use grid::{Grid, GridShape};
 pub use limits::{ShapeError, cells};
 pub use structure::Structure;
 
+#[cfg(test)]
+mod tests;
+
 /// The lists of rows of a table say what its cells say, and nothing less; they stand in row-major order without repeats,
 /// so that equal lists are of equal tables.
 pub fn row_lists_law()
