@@ -1,0 +1,6 @@
+pub mod CellsLemmas
+pub mod EqualStructures
+pub mod LimitsLemmas
+pub mod PlacesLemmas
+pub mod RowListsLemmas
+pub mod StructureLemmas

@@ -1,0 +1,5 @@
+pub mod Cells
+pub mod Limits
+pub mod Places
+pub mod RowLists
+pub mod StructureView

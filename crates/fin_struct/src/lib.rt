@@ -1,0 +1,36 @@
+//! Finite classical structures over a classical signature, whose tables stand in one flat list of cells: contracts see the
+//! cells by row, and the lists of rows of the definitions.
+#![tactic(auto)]
+
+ghost use Rattle.fin_struct.specs.StructureView.{StructureLaw, StructuresDetermine};
+ghost use Rattle.fin_struct.specs.RowLists.{ListsTell, ListsFit, ListsDetermine};
+
+mod condition;
+mod grid;
+mod limits;
+mod places;
+mod shapes;
+mod structure;
+
+pub use condition::Condition;
+pub use grid::{Grid, GridShape};
+pub use limits::{ShapeError, cells};
+pub use structure::Structure;
+
+#[cfg(test)]
+mod tests;
+
+/// The lists of rows of a table say what its cells say, and nothing less; they stand in row-major order without repeats,
+/// so that equal lists are of equal tables.
+pub fn row_lists_law()
+    ensures tell { ListsTell }
+    ensures fit { ListsFit }
+    ensures determine { ListsDetermine }
+{}
+
+/// A structure for a classical signature is over it, as the definitions have it, and no other structure for that signature
+/// has the same lists of rows.
+pub fn structure_law()
+    ensures over { StructureLaw }
+    ensures determine { StructuresDetermine }
+{}
