@@ -5,7 +5,7 @@ use Rattle.std.specs.List.{list_all}
 use Rattle.std.proofs.lemmas.List.Folds.{list_all-append}
 use Rattle.nxf_tree.specs.declared.tree.Setting.{Setting}
 use Rattle.nxf_tree.specs.Specification.{is_empty}
-use Rattle.nxf_tree.specs.SpecificationWords.{stands_alone, joins, one_alone, some_join, is_choice}
+use Rattle.nxf_tree.specs.SpecificationWords.{stands_alone, joins, one_alone, is_choice}
 
 pub and_true : (b : Bool) → (b && true) ≡ b
 and_true true = refl

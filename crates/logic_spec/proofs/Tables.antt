@@ -1,41 +1,51 @@
 -- The tables of a logic statement ask what it says.
-use Rattle.std.proofs.Common.{◌≡◌, ℕ, Bool, true, false, List, [], ◌∷◌, map, Option, refl, ap, ◌∙◌}
-use Rattle.std.specs.Prelude.{if◌then◌else◌, slice_get}
-use Rattle.std.specs.Option.{option_and_then, unwrap_or}
+use Rattle.std.proofs.Common.{◌≡◌, Bool, true, false, List, [], ◌∷◌, ◌++◌, Option, None, Some, refl}
+use Rattle.std.specs.Prelude.{if◌then◌else◌}
+use Rattle.std.specs.Option.{option_and_then, option_or, unwrap_or}
+use Rattle.std.specs.Map.{lookup}
 use Rattle.nxf_tree.specs.declared.tree.Regime.TheVariants.{Constant}
 use Rattle.nxf_tree.specs.declared.tree.Designation.TheVariants.{Rigid}
 use Rattle.nxf_tree.specs.declared.tree.Locality.TheVariants.{Local}
-use Rattle.nxf_tree.specs.declared.tree.Setting.{Setting}
 use Rattle.nxf_tree.specs.declared.tree.Setting.TheVariants.{Domains, Designation as Designations, Terms, Modalities}
-use Rattle.nxf_tree.specs.declared.tree.SpecKey.{SpecKey}
-use Rattle.nxf_tree.specs.declared.tree.SpecKey.TheVariants.{Name, Index}
+use Rattle.nxf_tree.specs.declared.tree.SortName.TheVariants.{User}
 use Rattle.nxf_tree.specs.declared.tree.SpecEntry.{SpecEntry}
-use Rattle.nxf_tree.specs.declared.tree.SpecValue.{out-SpecValue}
-use Rattle.nxf_tree.specs.SpecificationWords.{regime_named, designation_named, locality_named, schemes_of}
-use Rattle.nxf_tree.specs.Specification.{specification, same_key, sort_key, words_in, words_for, override_or, override_list, setting_overrides, default_words}
-use Rattle.logic_spec.specs.Asked.{word_among, word_for, schemes_among, schemes_for, word_override, scheme_override, word_table, scheme_table, tables, asked_by}
+use Rattle.nxf_tree.specs.SpecificationWords.{regime_named, designation_named, locality_named}
+use Rattle.nxf_tree.specs.Specification.{specification, override_list, setting_overrides, default_words}
+use Rattle.logic_spec.specs.declared.spec.Spec.{Spec}
+use Rattle.logic_spec.specs.Asked.{asked_by}
+use Rattle.logic_spec.specs.Noting.{IsWordTable, IsSchemeTable, schemes_said}
 
-chosen : {A B : Type 0} (f : A → B) (c : Bool) (x y : A) (z : B) → z ≡ f y → (if c then f x else z) ≡ f (if c then x else y)
-chosen f true x y z h = refl
-chosen f false x y z h = h
+-- a name that wasn't among the entries goes last
+pub lookup-last : {K T : Type 0} (test : K → Bool) (entries : List (K × T)) (k : K) (value : T)
+    → lookup test (entries ++ (k, value) ∷ []) ≡ option_or (lookup test entries) (if test k then Some value else None)
+lookup-last test [] k value = refl
+lookup-last test (e ∷ entries) k value = by (test e.0) (lookup-last test entries k value)
+  where
+    by : (b : Bool) → lookup test (entries ++ (k, value) ∷ []) ≡ option_or (lookup test entries) (if test k then Some value else None)
+        → (if b then Some e.1 else lookup test (entries ++ (k, value) ∷ [])) ≡ option_or (if b then Some e.1 else lookup test entries) (if test k then Some value else None)
+    by true h = refl
+    by false h = h
 
-word_is : (default : List (List ℕ)) (entries : List SpecEntry) (key : SpecKey) → word_among (slice_get default 0) (map word_override entries) key ≡ slice_get (override_or default entries key) 0
-word_is default [] key = refl
-word_is default (entry ∷ entries) key = chosen (λ ws. slice_get ws 0) (same_key entry.key key) (words_in (out-SpecValue entry.value)) (override_or default entries key) _ (word_is default entries key)
+-- what is noted counts where nothing was before
+pub noted : {A B : Type 0} (f : A → B) (before : Option B) (c : Bool) (own other : A)
+    → unwrap_or (option_or before (if c then Some (f own) else None)) (f other) ≡ unwrap_or before (f (if c then own else other))
+noted f (Some x) c own other = refl
+noted f None true own other = refl
+noted f None false own other = refl
 
-schemes_are : (default : List (List ℕ)) (entries : List SpecEntry) (key : SpecKey) → schemes_among (schemes_of default) (map scheme_override entries) key ≡ schemes_of (override_or default entries key)
-schemes_are default [] key = refl
-schemes_are default (entry ∷ entries) key = chosen schemes_of (same_key entry.key key) (words_in (out-SpecValue entry.value)) (override_or default entries key) _ (schemes_are default entries key)
-
-word_set : (setting : Setting) (entries : List SpecEntry) (key : SpecKey) → word_for (word_table setting entries) key ≡ slice_get (words_for setting entries key) 0
-word_set setting entries key = word_is (default_words setting entries) (setting_overrides setting entries) key
-
-pub tables_ask : (k : ℕ) (entries : List SpecEntry) → asked_by (tables k entries) ≡ specification k entries
-tables_ask k entries = λ i. record {
-  place = k;
-  regime = λ s. unwrap_or (option_and_then regime_named (word_set Domains entries (sort_key s) i)) Constant;
-  designation = λ f. unwrap_or (option_and_then designation_named (word_set Designations entries (Name f) i)) Rigid;
-  locality = λ f. unwrap_or (option_and_then locality_named (word_set Terms entries (Name f) i)) Local;
-  schemes = λ n. schemes_are (default_words Modalities entries) (setting_overrides Modalities entries) (Index n) i;
-  overrides = override_list entries;
+pub tables_ask : (entries : List SpecEntry) (spec : Spec)
+    → IsWordTable (default_words Domains entries) (setting_overrides Domains entries) spec.domains
+    → IsWordTable (default_words Designations entries) (setting_overrides Designations entries) spec.designation
+    → IsWordTable (default_words Terms entries) (setting_overrides Terms entries) spec.terms
+    → IsSchemeTable (default_words Modalities entries) (setting_overrides Modalities entries) spec.modalities
+    → spec.overrides ≡ override_list entries
+    → asked_by spec ≡ specification spec.place entries
+unfolding schemes_said
+tables_ask entries spec domains designation terms modalities overrides = λ i. record {
+  place = spec.place;
+  regime = λ s. unwrap_or (option_and_then regime_named (domains s i)) Constant;
+  designation = λ f. unwrap_or (option_and_then designation_named (designation (User f) i)) Rigid;
+  locality = λ f. unwrap_or (option_and_then locality_named (terms (User f) i)) Local;
+  schemes = λ n. modalities n i;
+  overrides = overrides i;
 }

@@ -1,74 +1,60 @@
--- What the tables of a `Spec` ask, and the tables of a logic statement.
-use Rattle.std.specs.Prelude.{ℕ, if◌then◌else◌, List, [], ◌∷◌, map, slice_get, Option}
+-- What the tables of a `Spec` ask.
+use Rattle.std.specs.Prelude.{ℕ, Bool, true, false, List, Option, None, Some}
 use Rattle.std.specs.Option.{option_and_then, unwrap_or}
+use Rattle.std.specs.Map.{lookup}
+use Rattle.nxf_tree.specs.declared.tree.IndexName.{IndexName}
+use Rattle.nxf_tree.specs.declared.tree.IndexName.TheVariants.{Plain, Named}
+use Rattle.nxf_tree.specs.declared.tree.SortName.{SortName}
+use Rattle.nxf_tree.specs.declared.tree.SortName.TheVariants.{Individual, User}
 use Rattle.nxf_tree.specs.declared.tree.Regime.TheVariants.{Constant}
 use Rattle.nxf_tree.specs.declared.tree.Designation.TheVariants.{Rigid}
 use Rattle.nxf_tree.specs.declared.tree.Locality.TheVariants.{Local}
 use Rattle.nxf_tree.specs.declared.tree.Scheme.{Scheme}
-use Rattle.nxf_tree.specs.declared.tree.Setting.{Setting}
-use Rattle.nxf_tree.specs.declared.tree.Setting.TheVariants.{Domains, Designation as Designations, Terms, Modalities}
-use Rattle.nxf_tree.specs.declared.tree.SpecKey.{SpecKey}
-use Rattle.nxf_tree.specs.declared.tree.SpecKey.TheVariants.{Name, Index}
-use Rattle.nxf_tree.specs.declared.tree.SpecEntry.{SpecEntry}
-use Rattle.nxf_tree.specs.declared.tree.SpecValue.{out-SpecValue}
-use Rattle.nxf_tree.specs.SpecificationWords.{regime_named, designation_named, locality_named, schemes_of}
-use Rattle.nxf_tree.specs.Specification.{Specification, same_key, sort_key, words_in, setting_overrides, default_words, override_list}
-use Rattle.logic_spec.specs.declared.spec.WordOverride.{WordOverride}
+use Rattle.nxf_tree.specs.Names.{same_text}
+use Rattle.nxf_tree.specs.SpecificationWords.{regime_named, designation_named, locality_named}
+use Rattle.nxf_tree.specs.Specification.{Specification}
+use Rattle.logic_spec.specs.declared.overrides.Overrides.{Overrides}
 use Rattle.logic_spec.specs.declared.spec.WordTable.{WordTable}
-use Rattle.logic_spec.specs.declared.spec.SchemeOverride.{SchemeOverride}
 use Rattle.logic_spec.specs.declared.spec.SchemeTable.{SchemeTable}
 use Rattle.logic_spec.specs.declared.spec.Spec.{Spec}
 
--- the word of the first override with the key, or else the default
-abbrev pub word_among : Option (List ℕ) → List WordOverride → SpecKey → Option (List ℕ)
-word_among default [] key = default
-word_among default (o ∷ os) key = if same_key o.key key then o.word else word_among default os key
+-- whether both are one name, or both no name
+abbrev pub same_name : Option (List ℕ) → Option (List ℕ) → Bool
+same_name None None = true
+same_name None (Some b) = false
+same_name (Some a) None = false
+same_name (Some a) (Some b) = same_text a b
 
-abbrev pub word_for : WordTable → SpecKey → Option (List ℕ)
-word_for table key = word_among table.default table.overrides key
+-- what the override of the name says, or that of the thing without a name
+abbrev pub override_of : {T : Type 0} → Overrides T → Option (List ℕ) → Option T
+override_of overrides None = overrides.nameless
+override_of overrides (Some name) = lookup (same_text name) overrides.named.entries
 
--- the schemes of the first override with the key, or else the default
-abbrev pub schemes_among : List Scheme → List SchemeOverride → SpecKey → List Scheme
-schemes_among default [] key = default
-schemes_among default (o ∷ os) key = if same_key o.key key then o.schemes else schemes_among default os key
+-- the text of a user's sort, or none for `$i`
+abbrev pub text_of_sort : SortName → Option (List ℕ)
+text_of_sort Individual = None
+text_of_sort (User s) = Some s
 
-abbrev pub schemes_for : SchemeTable → SpecKey → List Scheme
-schemes_for table key = schemes_among table.default table.overrides key
+-- the text of an index, or none for the unindexed modality
+abbrev pub text_of_index : IndexName → Option (List ℕ)
+text_of_index Plain = None
+text_of_index (Named a) = Some a
+
+-- the word of the override, or else the default
+abbrev pub word_for : WordTable → Option (List ℕ) → Option (List ℕ)
+word_for table name = unwrap_or (override_of table.overrides name) table.default
+
+-- the schemes of the override, or else the default's
+abbrev pub schemes_for : SchemeTable → Option (List ℕ) → List Scheme
+schemes_for table name = unwrap_or (override_of table.overrides name) table.default
 
 -- what the tables ask of each sort, function and index; unset, sorts are constant, functions rigid and local
 abbrev pub asked_by : Spec → Specification
 asked_by spec = record {
   place = spec.place;
-  regime = λ s. unwrap_or (option_and_then regime_named (word_for spec.domains (sort_key s))) Constant;
-  designation = λ f. unwrap_or (option_and_then designation_named (word_for spec.designation (Name f))) Rigid;
-  locality = λ f. unwrap_or (option_and_then locality_named (word_for spec.terms (Name f))) Local;
-  schemes = λ i. schemes_for spec.modalities (Index i);
+  regime = λ s. unwrap_or (option_and_then regime_named (word_for spec.domains (text_of_sort s))) Constant;
+  designation = λ f. unwrap_or (option_and_then designation_named (word_for spec.designation (Some f))) Rigid;
+  locality = λ f. unwrap_or (option_and_then locality_named (word_for spec.terms (Some f))) Local;
+  schemes = λ i. schemes_for spec.modalities (text_of_index i);
   overrides = spec.overrides;
-}
-
--- an override's key with the word, or the schemes, of its value
-abbrev pub word_override : SpecEntry → WordOverride
-word_override entry = record { key = entry.key; word = slice_get (words_in (out-SpecValue entry.value)) 0 }
-
-abbrev pub scheme_override : SpecEntry → SchemeOverride
-scheme_override entry = record { key = entry.key; schemes = schemes_of (words_in (out-SpecValue entry.value)) }
-
--- the default and the overrides of a setting
-abbrev pub word_table : Setting → List SpecEntry → WordTable
-word_table setting entries =
-    record { default = slice_get (default_words setting entries) 0; overrides = map word_override (setting_overrides setting entries) }
-
-abbrev pub scheme_table : Setting → List SpecEntry → SchemeTable
-scheme_table setting entries =
-    record { default = schemes_of (default_words setting entries); overrides = map scheme_override (setting_overrides setting entries) }
-
--- the tables of the entries of a logic statement
-abbrev pub tables : ℕ → List SpecEntry → Spec
-tables k entries = record {
-  place = k;
-  domains = word_table Domains entries;
-  designation = word_table Designations entries;
-  terms = word_table Terms entries;
-  modalities = scheme_table Modalities entries;
-  overrides = override_list entries;
 }

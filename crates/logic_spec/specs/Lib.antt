@@ -1,3 +1,4 @@
-pub mod Judging
 pub mod Asked
+pub mod Judging
+pub mod Noting
 pub mod Seen

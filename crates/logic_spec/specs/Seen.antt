@@ -1,5 +1,5 @@
 -- What the judge of a list keeps of the items before: enough for the fault of the next one.
-use Rattle.std.specs.Prelude.{Bool, true, false, ◌&&◌, ◌||◌, if◌then◌else◌, List, Option, None, Some}
+use Rattle.std.specs.Prelude.{Bool, false, ◌&&◌, ◌||◌, if◌then◌else◌, List, Option, None, Some}
 use Rattle.std.specs.List.{list_all}
 use Rattle.indexmap.specs.IndexSet.{contains}
 use Rattle.nxf_base.specs.declared.status.SpecKind.{SpecKind}

@@ -4,6 +4,7 @@
 mod error;
 mod judge;
 mod keys;
+mod overrides;
 mod read;
 mod seen;
 mod spec;

@@ -1,24 +1,29 @@
 //! Reading the logic statement of a file.
 
-ghost use Rattle.std.specs.Prelude.{◌≡◌, ◌++◌, ◌∷◌, [], ◌<◌, ◌≤◌, ◌+◌, ◌^◌, map, filter, length, drop, slice_get, IfOk, IfSome, OnOk, MatchOption};
+ghost use Rattle.std.specs.Prelude.{◌≡◌, ◌++◌, ◌∷◌, [], ◌<◌, ◌≤◌, ◌+◌, ◌^◌, map, filter, length, drop, slice_get, IfOk, IfSome, OnOk, MatchOption, Some, None, if◌then◌else◌};
 ghost use Rattle.std.specs.List.{list_any};
-ghost use Rattle.std.specs.Option.{option_copied, option_map};
+ghost use Rattle.std.specs.Option.{option_copied, option_map, option_or};
 ghost use Rattle.nxf_tree.specs.declared.tree.SpecValue.{out-SpecValue};
 ghost use Rattle.nxf_tree.specs.Counting.{has};
 ghost use Rattle.nxf_tree.specs.SpecificationWords as words;
 ghost use Rattle.nxf_tree.specs.Specification as spec;
 ghost use Rattle.logic_spec.specs.Asked as asked;
+ghost use Rattle.logic_spec.specs.Asked.{asked_by};
+ghost use Rattle.nxf_tree.specs.Signature as indexes;
+ghost use Rattle.nxf_tree.specs.declared.tree.IndexName.{IndexName as AnyIndex};
 ghost use Rattle.logic_spec.specs.Judging as judging;
+ghost use Rattle.logic_spec.specs.Noting as noting;
 
 use crate::error::SpecError;
 use crate::judge::judge_logic;
 use crate::keys::{is_setting, key_text};
-use crate::spec::{SchemeOverride, SchemeTable, Spec, WordOverride, WordTable};
+use crate::overrides::Overrides;
+use crate::spec::{SchemeTable, Spec, WordTable};
 use crate::words::asks;
 use nxf_base::{List, Memory, SpecKind, Text};
 use nxf_tree::{
-    Body, File, LogicSpec, Override, Scheme, Setting, SpecEntry, SpecItem, SpecKey, SpecValue,
-    Statement,
+    Body, File, IndexName, LogicSpec, Override, Scheme, Setting, SpecEntry, SpecItem, SpecKey,
+    SpecValue, Statement,
 };
 use std::alloc::Global;
 
@@ -102,8 +107,9 @@ fn value_asks(value: &SpecValue, scheme: Scheme) -> bool
 }
 
 /// The schemes that the words of the value ask.
+#[tactic(auto, unfolding(crate::specs::Noting::schemes_said))]
 fn schemes_in(alloc: Global, value: &SpecValue) -> Result<List<Scheme>, Memory>
-    ensures { IfOk result (λ l. l ≡ words.schemes_of (spec.words_in (out-SpecValue value.now))) }
+    ensures { IfOk result (λ l. l ≡ noting.schemes_said (spec.words_in (out-SpecValue value.now))) }
 {
     let mut schemes = List::new(alloc);
     for scheme in SCHEME_ORDER.as_slice() {
@@ -114,62 +120,100 @@ fn schemes_in(alloc: Global, value: &SpecValue) -> Result<List<Scheme>, Memory>
     Ok(schemes)
 }
 
-/// The overrides of a list of items, each with its word.
-#[tactic(auto, using(nxf_tree::proofs::Opened::opened))]
-fn word_overrides(alloc: Global, mut items: &[SpecItem]) -> Result<List<WordOverride>, Memory>
-    ensures { IfOk result (λ l. l ≡ map asked.word_override (spec.overrides_of items.entry.now)) }
+/// Notes an override of a sort or a function with its word. Other keys have no override there.
+fn note_word(
+    alloc: Global,
+    overrides: &mut Overrides<Option<Text>>,
+    entry: &SpecEntry,
+) -> Result<(), Memory>
+    ensures { OnOk result (noting.NotesWords overrides.old (entry.now ∷ []) overrides.new) }
 {
-    let mut overrides = List::new(alloc);
+    match &entry.key {
+        SpecKey::Dollar(text) => {
+            if text.bytes() == b"$i".as_slice() {
+                overrides.note_nameless(copy_word(alloc, word_in(&entry.value))?);
+            }
+            Ok(())
+        }
+        SpecKey::Name(name) => {
+            let word = copy_word(alloc, word_in(&entry.value))?;
+            overrides.note_name(alloc, name, word)
+        }
+        SpecKey::Index(_) => Ok(()),
+    }
+}
+
+/// Notes the overrides of a list of items, each with its word.
+#[tactic(auto, using(nxf_tree::proofs::Opened::opened))]
+fn note_words(
+    alloc: Global,
+    overrides: &mut Overrides<Option<Text>>,
+    mut items: &[SpecItem],
+) -> Result<(), Memory>
+    ensures { OnOk result (noting.NotesWords overrides.old (spec.overrides_of items.entry.now) overrides.new) }
+{
     while let [item, rest @ ..] = items {
         match item {
             SpecItem::Word(_) => {}
-            SpecItem::Entry(entry) => {
-                let made = word_override(alloc, entry)?;
-                overrides.push(made)?;
-            }
+            SpecItem::Entry(entry) => note_word(alloc, overrides, entry)?,
         }
         items = rest;
     }
-    Ok(overrides)
+    Ok(())
 }
 
-fn word_override(alloc: Global, entry: &SpecEntry) -> Result<WordOverride, Memory>
-    ensures { IfOk result (λ o. o ≡ asked.word_override entry.now) }
+fn note_index(
+    alloc: Global,
+    overrides: &mut Overrides<List<Scheme>>,
+    index: &IndexName,
+    schemes: List<Scheme>,
+) -> Result<(), Memory>
+    ensures { OnOk result ((other : AnyIndex) → asked.override_of overrides.new (asked.text_of_index other) ≡ option_or (asked.override_of overrides.old (asked.text_of_index other)) (if indexes.same_index index.now other then Some schemes else None)) }
 {
-    let key = entry.key.copy(alloc)?;
-    Ok(WordOverride {
-        key,
-        word: copy_word(alloc, word_in(&entry.value))?,
-    })
+    match index {
+        IndexName::Plain => {
+            overrides.note_nameless(schemes);
+            Ok(())
+        }
+        IndexName::Named(name) => overrides.note_name(alloc, name, schemes),
+    }
 }
 
-/// The overrides of a list of items, each with its schemes.
+/// Notes an override of an index with its schemes. Other keys have no override there.
+fn note_scheme(
+    alloc: Global,
+    overrides: &mut Overrides<List<Scheme>>,
+    entry: &SpecEntry,
+) -> Result<(), Memory>
+    ensures { OnOk result (noting.NotesSchemes overrides.old (entry.now ∷ []) overrides.new) }
+{
+    match &entry.key {
+        SpecKey::Dollar(_) => Ok(()),
+        SpecKey::Name(_) => Ok(()),
+        SpecKey::Index(index) => {
+            let schemes = schemes_in(alloc, &entry.value)?;
+            note_index(alloc, overrides, index, schemes)
+        }
+    }
+}
+
+/// Notes the overrides of a list of items, each with its schemes.
 #[tactic(auto, using(nxf_tree::proofs::Opened::opened))]
-fn scheme_overrides(alloc: Global, mut items: &[SpecItem]) -> Result<List<SchemeOverride>, Memory>
-    ensures { IfOk result (λ l. l ≡ map asked.scheme_override (spec.overrides_of items.entry.now)) }
+fn note_schemes(
+    alloc: Global,
+    overrides: &mut Overrides<List<Scheme>>,
+    mut items: &[SpecItem],
+) -> Result<(), Memory>
+    ensures { OnOk result (noting.NotesSchemes overrides.old (spec.overrides_of items.entry.now) overrides.new) }
 {
-    let mut overrides = List::new(alloc);
     while let [item, rest @ ..] = items {
         match item {
             SpecItem::Word(_) => {}
-            SpecItem::Entry(entry) => {
-                let made = scheme_override(alloc, entry)?;
-                overrides.push(made)?;
-            }
+            SpecItem::Entry(entry) => note_scheme(alloc, overrides, entry)?,
         }
         items = rest;
     }
-    Ok(overrides)
-}
-
-fn scheme_override(alloc: Global, entry: &SpecEntry) -> Result<SchemeOverride, Memory>
-    ensures { IfOk result (λ o. o ≡ asked.scheme_override entry.now) }
-{
-    let key = entry.key.copy(alloc)?;
-    Ok(SchemeOverride {
-        key,
-        schemes: schemes_in(alloc, &entry.value)?,
-    })
+    Ok(())
 }
 
 /// The value that sets the setting.
@@ -189,26 +233,26 @@ fn value_of(setting: Setting, mut entries: &[SpecEntry]) -> Option<&SpecValue>
 /// The default and the overrides of a value of a setting of one word.
 #[tactic(auto, using(nxf_tree::proofs::Opened::opened))]
 fn word_table_in(alloc: Global, value: &SpecValue) -> Result<WordTable, Memory>
-    ensures default { IfOk result (λ t. t.default ≡ slice_get (spec.words_in (out-SpecValue value.now)) 0) }
-    ensures overrides { IfOk result (λ t. t.overrides ≡ map asked.word_override (spec.overrides_in (out-SpecValue value.now))) }
+    ensures { IfOk result (noting.IsWordTable (spec.words_in (out-SpecValue value.now)) (spec.overrides_in (out-SpecValue value.now))) }
 {
-    let overrides = match value {
-        SpecValue::Word(_) => List::new(alloc),
-        SpecValue::Items(items) => word_overrides(alloc, items.as_slice())?,
-    };
+    let mut overrides = Overrides::new(alloc);
+    match value {
+        SpecValue::Word(_) => {}
+        SpecValue::Items(items) => note_words(alloc, &mut overrides, items.as_slice())?,
+    }
     let default = copy_word(alloc, word_in(value))?;
     Ok(WordTable { default, overrides })
 }
 
 /// The default and the overrides of a setting of one word.
 fn word_table(alloc: Global, setting: Setting, entries: &[SpecEntry]) -> Result<WordTable, Memory>
-    ensures { IfOk result (λ t. t ≡ asked.word_table setting entries.now) }
+    ensures { IfOk result (noting.IsWordTable (spec.default_words setting entries.now) (spec.setting_overrides setting entries.now)) }
 {
     match value_of(setting, entries) {
         Some(value) => word_table_in(alloc, value),
         None => Ok(WordTable {
             default: None,
-            overrides: List::new(alloc),
+            overrides: Overrides::new(alloc),
         }),
     }
 }
@@ -216,26 +260,27 @@ fn word_table(alloc: Global, setting: Setting, entries: &[SpecEntry]) -> Result<
 /// The default and the overrides of a value of the modalities.
 #[tactic(auto, using(nxf_tree::proofs::Opened::opened))]
 fn scheme_table_in(alloc: Global, value: &SpecValue) -> Result<SchemeTable, Memory>
-    ensures default { IfOk result (λ t. t.default ≡ words.schemes_of (spec.words_in (out-SpecValue value.now))) }
-    ensures overrides { IfOk result (λ t. t.overrides ≡ map asked.scheme_override (spec.overrides_in (out-SpecValue value.now))) }
+    ensures { IfOk result (noting.IsSchemeTable (spec.words_in (out-SpecValue value.now)) (spec.overrides_in (out-SpecValue value.now))) }
 {
-    let overrides = match value {
-        SpecValue::Word(_) => List::new(alloc),
-        SpecValue::Items(items) => scheme_overrides(alloc, items.as_slice())?,
-    };
+    let mut overrides = Overrides::new(alloc);
+    match value {
+        SpecValue::Word(_) => {}
+        SpecValue::Items(items) => note_schemes(alloc, &mut overrides, items.as_slice())?,
+    }
     let default = schemes_in(alloc, value)?;
     Ok(SchemeTable { default, overrides })
 }
 
 /// The default and the overrides of the modalities.
+#[tactic(auto, unfolding(crate::specs::Noting::schemes_said))]
 fn scheme_table(alloc: Global, entries: &[SpecEntry]) -> Result<SchemeTable, Memory>
-    ensures { IfOk result (λ t. t ≡ asked.scheme_table Setting.Modalities entries.now) }
+    ensures { IfOk result (noting.IsSchemeTable (spec.default_words Setting.Modalities entries.now) (spec.setting_overrides Setting.Modalities entries.now)) }
 {
     match value_of(Setting::Modalities, entries) {
         Some(value) => scheme_table_in(alloc, value),
         None => Ok(SchemeTable {
             default: List::new(alloc),
-            overrides: List::new(alloc),
+            overrides: Overrides::new(alloc),
         }),
     }
 }
@@ -297,7 +342,7 @@ fn all_overrides(alloc: Global, entries: &[SpecEntry]) -> Result<List<Override>,
 
 /// The tables of the entries of a logic statement.
 fn tables(alloc: Global, place: u32, entries: &[SpecEntry]) -> Result<Spec, Memory>
-    ensures { IfOk result (λ s. s ≡ asked.tables place entries.now) }
+    ensures { IfOk result (λ s. asked_by s ≡ spec.specification place entries.now) }
 {
     let domains = word_table(alloc, Setting::Domains, entries)?;
     let designation = word_table(alloc, Setting::Designation, entries)?;

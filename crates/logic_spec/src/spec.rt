@@ -1,48 +1,32 @@
 //! The tables of a logic statement, and what they ask.
 
-ghost use Rattle.std.specs.Prelude.{◌≡◌};
+ghost use Rattle.std.specs.Prelude.{◌≡◌, Some, None};
 ghost use Rattle.std.specs.Option.{option_copied, option_and_then, unwrap_or};
 ghost use Rattle.nxf_tree.specs.declared.tree.Regime.TheVariants.{Constant};
-ghost use Rattle.nxf_tree.specs.declared.tree.SpecKey.TheVariants.{Name, Index};
 ghost use Rattle.nxf_tree.specs.SpecificationWords.{regime_named};
-ghost use Rattle.nxf_tree.specs.Specification.{same_key, sort_key};
 ghost use Rattle.logic_spec.specs.Asked.{asked_by, word_for};
 
-use crate::keys::same_index;
+use crate::overrides::Overrides;
 use crate::words::{designation_named, locality_named, regime_named};
 use nxf_base::{List, Text};
-use nxf_tree::{Designation, IndexName, Locality, Override, Regime, Scheme, SortName, SpecKey};
+use nxf_tree::{Designation, IndexName, Locality, Override, Regime, Scheme, SortName};
 
-/// An override of a setting of one word.
-#[derive(Debug, Drop)]
-pub struct WordOverride {
-    pub key: SpecKey,
-    pub word: Option<Text>,
-}
-
-/// An override of modalities.
-#[derive(Debug, Drop)]
-pub struct SchemeOverride {
-    pub key: SpecKey,
-    pub schemes: List<Scheme>,
-}
-
-/// The default's word and the overrides of a setting.
-#[derive(Debug, Drop)]
+/// The default's word of a setting, and the words of its overrides, for `$i` and for names.
+#[derive(Drop)]
 pub struct WordTable {
     pub default: Option<Text>,
-    pub overrides: List<WordOverride>,
+    pub overrides: Overrides<Option<Text>>,
 }
 
-/// The default's schemes and the overrides of modalities.
-#[derive(Debug, Drop)]
+/// The default's schemes, and those of the overrides, for the unindexed modality and for the names of indexes.
+#[derive(Drop)]
 pub struct SchemeTable {
     pub default: List<Scheme>,
-    pub overrides: List<SchemeOverride>,
+    pub overrides: Overrides<List<Scheme>>,
 }
 
 /// What the logic statement of a file asks of sorts, functions and indexes.
-#[derive(Debug, Drop)]
+#[derive(Drop)]
 pub struct Spec {
     pub(crate) place: u32,
     pub(crate) domains: WordTable,
@@ -71,19 +55,17 @@ impl Spec {
     pub fn regime(&self, sort: &SortName) -> Regime
         ensures { result ≡ (asked_by self.now).regime sort.now }
     {
-        for item in self.domains.overrides.as_slice() {
-            if is_sort(&item.key, sort) {
-                return regime_or(&item.word);
-            }
+        match sort {
+            SortName::Individual => regime_or(self.domains.word_of_individual()),
+            SortName::User(name) => regime_or(self.domains.word_of(name)),
         }
-        regime_or(&self.domains.default)
     }
 
     /// The designation of a function: that of its override, else the default.
     pub fn designation(&self, symbol: &Text) -> Designation
         ensures { result ≡ (asked_by self.now).designation symbol.now }
     {
-        match word_for_name(&self.designation, symbol) {
+        match self.designation.word_of(symbol) {
             Some(word) => match designation_named(word) {
                 Some(designation) => designation,
                 None => Designation::Rigid,
@@ -96,7 +78,7 @@ impl Spec {
     pub fn locality(&self, symbol: &Text) -> Locality
         ensures { result ≡ (asked_by self.now).locality symbol.now }
     {
-        match word_for_name(&self.terms, symbol) {
+        match self.terms.word_of(symbol) {
             Some(word) => match locality_named(word) {
                 Some(locality) => locality,
                 None => Locality::Local,
@@ -109,24 +91,37 @@ impl Spec {
     pub fn schemes(&self, index: &IndexName) -> &List<Scheme>
         ensures { result.now ≡ (asked_by self.now).schemes index.now }
     {
-        for item in self.modalities.overrides.as_slice() {
-            if is_index(&item.key, index) {
-                return &item.schemes;
-            }
+        let own = match index {
+            IndexName::Plain => self.modalities.overrides.of_nameless(),
+            IndexName::Named(name) => self.modalities.overrides.of_name(name),
+        };
+        match own {
+            Some(schemes) => schemes,
+            None => &self.modalities.default,
         }
-        &self.modalities.default
     }
 }
 
-fn word_for_name<'a>(table: &'a WordTable, name: &Text) -> Option<&'a Text>
-    ensures { option_copied result ≡ word_for table.now (Name name.now) }
-{
-    for item in table.overrides.as_slice() {
-        if is_name(&item.key, name) {
-            return lent(&item.word);
+impl WordTable {
+    /// The word for `$i`: that of its override, else the default.
+    fn word_of_individual(&self) -> Option<&Text>
+        ensures { option_copied result ≡ word_for self.now None }
+    {
+        match self.overrides.of_nameless() {
+            Some(word) => lent(word),
+            None => lent(&self.default),
         }
     }
-    lent(&table.default)
+
+    /// The word for a name: that of its override, else the default.
+    fn word_of(&self, name: &Text) -> Option<&Text>
+        ensures { option_copied result ≡ word_for self.now (Some name.now) }
+    {
+        match self.overrides.of_name(name) {
+            Some(word) => lent(word),
+            None => lent(&self.default),
+        }
+    }
 }
 
 fn lent(word: &Option<Text>) -> Option<&Text>
@@ -138,8 +133,8 @@ fn lent(word: &Option<Text>) -> Option<&Text>
     }
 }
 
-fn regime_or(word: &Option<Text>) -> Regime
-    ensures { result ≡ unwrap_or (option_and_then regime_named word.now) Constant }
+fn regime_or(word: Option<&Text>) -> Regime
+    ensures { result ≡ unwrap_or (option_and_then regime_named (option_copied word.entry)) Constant }
 {
     match word {
         Some(word) => match regime_named(word) {
@@ -147,38 +142,5 @@ fn regime_or(word: &Option<Text>) -> Regime
             None => Regime::Constant,
         },
         None => Regime::Constant,
-    }
-}
-
-fn is_sort(key: &SpecKey, sort: &SortName) -> bool
-    ensures { result ≡ same_key key.now (sort_key sort.now) }
-{
-    match sort {
-        SortName::Individual => match key {
-            SpecKey::Dollar(word) => word.bytes() == b"$i".as_slice(),
-            SpecKey::Name(_) => false,
-            SpecKey::Index(_) => false,
-        },
-        SortName::User(name) => is_name(key, name),
-    }
-}
-
-fn is_name(key: &SpecKey, name: &Text) -> bool
-    ensures { result ≡ same_key key.now (Name name.now) }
-{
-    match key {
-        SpecKey::Dollar(_) => false,
-        SpecKey::Name(own) => own.bytes() == name.bytes(),
-        SpecKey::Index(_) => false,
-    }
-}
-
-fn is_index(key: &SpecKey, index: &IndexName) -> bool
-    ensures { result ≡ same_key key.now (Index index.now) }
-{
-    match key {
-        SpecKey::Dollar(_) => false,
-        SpecKey::Name(_) => false,
-        SpecKey::Index(own) => same_index(own, index),
     }
 }

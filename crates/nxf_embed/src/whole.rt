@@ -31,6 +31,7 @@ pub fn embed(alloc: Global, checked: &Checked, parts: &Parts) -> Result<File, Me
 {
     let tables = classical_signature(alloc, checked.signature())?;
     let mut statements = declarations(alloc, &tables)?;
+    drop(tables);
     add_axioms(alloc, checked.signature(), &mut statements)?;
     add_formulas(alloc, checked, parts, &mut statements)?;
     Ok(File { statements })

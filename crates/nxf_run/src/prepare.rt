@@ -82,10 +82,12 @@ fn translate(alloc: Global, file: File) -> Result<Vec<u8>, Status>
         Err(status) => return Err(status),
     };
     drop(file);
-    match embed(alloc, &checked, &parts) {
-        Ok(problem) => print(alloc, &problem),
-        Err(Memory) => Err(Status::Memory),
-    }
+    let problem = match embed(alloc, &checked, &parts) {
+        Ok(problem) => problem,
+        Err(Memory) => return Err(Status::Memory),
+    };
+    drop((parts, checked));
+    print(alloc, &problem)
 }
 
 /// What the file is read as, where it is in the profile.

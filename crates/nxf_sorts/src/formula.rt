@@ -262,7 +262,10 @@ fn number_formulas(
         (λ e. IsFault (formulas_faults names.now.signature names.now.declared binders.old formulas.now) e) }
     ensures kept { OnOk result (binders.new ≡ binders.old) }
 {
-    let mut nodes = List::new(alloc);
+    let mut nodes = match List::with_capacity(alloc, formulas.len()) {
+        Ok(nodes) => nodes,
+        Err(Memory) => return Err(Fault::Memory),
+    };
     for formula in formulas.as_slice() {
         match number_formula(alloc, names, binders, formula) {
             Err(error) => return Err(error),

@@ -177,7 +177,10 @@ pub fn number_terms(
     ensures { MatchResult result (λ ns. NumbersTerms names.now.signature names.now.declared binders.now of.now (map (sort_at names.now.signature.sorts) sorts.now) terms.now ns)
         (λ e. IsFault (arguments_fault (modal_language names.now.signature) names.now.declared (bound_in names.now.signature binders.now) of.now (map (sort_at names.now.signature.sorts) sorts.now) terms.now) e) }
 {
-    let mut args = List::new(alloc);
+    let mut args = match List::with_capacity(alloc, terms.len()) {
+        Ok(args) => args,
+        Err(Memory) => return Err(Fault::Memory),
+    };
     let mut at = 0;
     for term in terms {
         if at >= sorts.len() {

@@ -1,4 +1,4 @@
-use Rattle.std.proofs.Common.{◌≡◌, List, ◌++◌, map, length}
+use Rattle.std.proofs.Common.{◌≡◌, ◌++◌, map, length}
 use Rattle.nxf_tree.specs.declared.tree.Override.{Override}
 use Rattle.nxf_tree.specs.declared.tree.SpecEntry.{SpecEntry}
 use Rattle.nxf_tree.specs.Specification.{overrides_of, key_text}
