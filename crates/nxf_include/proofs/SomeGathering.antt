@@ -1,11 +1,10 @@
 -- One map of files and one name have a gathering, and the files decide it.
-use Rattle.std.proofs.Common.{◌≡◌, ℕ, zero, suc, ◌+◌, Bool, true, false, if◌then◌else◌, leb, List, [], ◌∷◌, length, Option, Some, None, Result, Ok, Err, refl, sym, subst}
+use Rattle.std.proofs.Common.{ℕ, zero, suc, ◌+◌, Bool, true, false, if◌then◌else◌, leb, List, [], ◌∷◌, length, Option, Some, None, Result, Ok, Err, refl, sym, subst}
 use mathlib.Core.Logic.{inl, inr}
 use Rattle.nxf_base.specs.Files.{Files, file_of}
 use Rattle.tptp_lex.specs.declared.token.Token.{Token}
 use Rattle.tptp_lex.specs.Lexing.{Lexes}
 use Rattle.nxf_signs.specs.declared.sign.Profile.TheVariants.{Problem}
-use Rattle.nxf_tree.specs.declared.tree.File.{File}
 use Rattle.nxf_tree.specs.declared.tree.Statement.{Statement}
 use Rattle.nxf_tree.specs.declared.tree.Statement.TheVariants.{Annotated, Include}
 use Rattle.nxf_include.specs.Gathered.{Reads, spelled, not_lexed, not_read, counted, ReadsCounted, Enters, selected, first_missing, unless_missing, Before, Brings, Visits, Gathers}
@@ -13,7 +12,7 @@ use Rattle.nxf_include.specs.Loading.{loaded, within}
 use Rattle.nxf_include.specs.Refusals.{IsRefusalOfFiles, IsOfFiles}
 use Rattle.nxf_include.specs.Steps.{Step, Is, Then}
 use Rattle.nxf_include.specs.declared.gather_error.GatherError.{GatherError}
-use Rattle.nxf_include.specs.declared.gather_error.GatherError.TheVariants.{NoFile, TooLong, TooMuch, Deep, Lex, Syntax, NoSuchName}
+use Rattle.nxf_include.specs.declared.gather_error.GatherError.TheVariants.{TooLong, TooMuch, Deep, Lex, Syntax}
 use Rattle.nxf_include.specs.declared.reading.Visited.{Visited}
 use Rattle.nxf_include.proofs.SomeReading.{HasTokens, has_tokens, HasFile, has_file}
 
