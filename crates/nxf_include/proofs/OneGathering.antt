@@ -38,7 +38,7 @@ then_one First Next first next r s (inr (d, f, is)) (inr (e, g, so)) = is ∙ (l
 one_first_fault : (bytes : List ℕ) (ts us : List Token) (j k : ℕ) → ts ≡ us → IsFirstFault Problem bytes ts j → IsFirstFault Problem bytes us k → j ≡ k
 one_first_fault bytes ts us j k same f g = one_fault f (subst (λ vs. IsFirstFault Problem bytes vs k) (sym same) g)
 
-one_reading : {name bytes : List ℕ} {r s : Result (List Statement) GatherError} → Reads name bytes r → Reads name bytes s → r ≡ s
+pub one_reading : {name bytes : List ℕ} {r s : Result (List Statement) GatherError} → Reads name bytes r → Reads name bytes s → r ≡ s
 one_reading {bytes = bytes} (spelled {statements = ss} h) (spelled {statements = ts} k) =
     let same = one_file_spelled Problem bytes (record { statements = ss }) (record { statements = ts }) h k in
     ap (λ (f : File). Ok f.statements) same

@@ -1,5 +1,5 @@
 -- How a result stands to the defined one.
-use Rattle.std.specs.Prelude.{◌≡◌, ◌⊎◌, Option, IfSome, Result, Err}
+use Rattle.std.specs.Prelude.{◌≡◌, ◌⊎◌, Option, IfSome, Result, Err, IfErr}
 use Rattle.nxf_base.specs.Files.{Files}
 use Rattle.nxf_include.specs.declared.gather_error.GatherError.{GatherError}
 use Rattle.nxf_include.specs.declared.gather_error.GatherError.TheVariants.{NoFile, ReadFault, TooLong, Memory}
@@ -12,6 +12,16 @@ IsOfLoading ReadFault = Unit {0}
 IsOfLoading (TooLong name) = Unit {0}
 IsOfLoading Memory = Unit {0}
 IsOfLoading _ = ⊥
+
+-- the files decide the refusal: it is no failure of a library and no want of memory
+abbrev pub IsRefusalOfFiles : GatherError → Type 0
+IsRefusalOfFiles ReadFault = ⊥
+IsRefusalOfFiles Memory = ⊥
+IsRefusalOfFiles _ = Unit {0}
+
+-- the files decide the result
+abbrev pub IsOfFiles : {A : Type 0} → Result A GatherError → Type 0
+IsOfFiles result = IfErr result IsRefusalOfFiles
 
 -- the refusal is the defined one where the files are told, or a read fault, or want of memory
 abbrev pub Refuses : {A : Type 0} → Option Files → (Files → Result A GatherError) → GatherError → Type 0
