@@ -12,7 +12,7 @@ ghost use Rattle.nxf_sorts.specs.Numbering.{IsFault, IsGoodSignature, IsScope, F
 use crate::binders::Binders;
 use crate::fault::{Fault, fault_of};
 use crate::node::Node;
-use crate::number::{number_sides, number_terms, put, used_predicate};
+use crate::number::{number_sides, number_terms, put, room, used_predicate};
 use nxf_base::{List, Memory, SortKind, Text};
 use nxf_names::Names;
 use nxf_tree::{Formula, IndexName, Mode, Quantifier, SortName, Term};
@@ -262,10 +262,7 @@ fn number_formulas(
         (λ e. IsFault (formulas_faults names.now.signature names.now.declared binders.old formulas.now) e) }
     ensures kept { OnOk result (binders.new ≡ binders.old) }
 {
-    let mut nodes = match List::with_capacity(alloc, formulas.len()) {
-        Ok(nodes) => nodes,
-        Err(Memory) => return Err(Fault::Memory),
-    };
+    let mut nodes = room(alloc, formulas.len())?;
     for formula in formulas.as_slice() {
         match number_formula(alloc, names, binders, formula) {
             Err(error) => return Err(error),

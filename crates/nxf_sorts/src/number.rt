@@ -1,6 +1,6 @@
 //! Terms become numbers.
 
-ghost use Rattle.std.specs.Prelude.{◌≡◌, ◌++◌, ◌∷◌, [], OnOk, MatchResult, map, true, false, Some, None};
+ghost use Rattle.std.specs.Prelude.{◌≡◌, ◌++◌, ◌∷◌, [], OnOk, IfOk, IfErr, MatchResult, map, true, false, Some, None};
 ghost use Rattle.nxf_tree.specs.Sorting.{modal_language};
 ghost use Rattle.nxf_tree.specs.SortFaults.{symbol_fault, term_fault, arguments_fault, equation_fault};
 ghost use Rattle.nxf_tree.specs.Signature.{sort_at};
@@ -24,6 +24,17 @@ pub fn put<T: Drop>(list: &mut List<T>, item: T) -> Result<(), Memory>
     match list.push(item) {
         Ok(()) => Ok(()),
         Err(_) => Err(Memory),
+    }
+}
+
+/// An empty list with room for that many items.
+pub fn room<T>(alloc: Global, count: usize) -> Result<List<T>, Fault>
+    ensures empty { IfOk result (λ list. list ≡ []) }
+    ensures refused { IfErr result (λ fault. fault ≡ Fault.Memory) }
+{
+    match List::with_capacity(alloc, count) {
+        Ok(list) => Ok(list),
+        Err(Memory) => Err(Fault::Memory),
     }
 }
 
@@ -177,10 +188,7 @@ pub fn number_terms(
     ensures { MatchResult result (λ ns. NumbersTerms names.now.signature names.now.declared binders.now of.now (map (sort_at names.now.signature.sorts) sorts.now) terms.now ns)
         (λ e. IsFault (arguments_fault (modal_language names.now.signature) names.now.declared (bound_in names.now.signature binders.now) of.now (map (sort_at names.now.signature.sorts) sorts.now) terms.now) e) }
 {
-    let mut args = match List::with_capacity(alloc, terms.len()) {
-        Ok(args) => args,
-        Err(Memory) => return Err(Fault::Memory),
-    };
+    let mut args = room(alloc, terms.len())?;
     let mut at = 0;
     for term in terms {
         if at >= sorts.len() {
