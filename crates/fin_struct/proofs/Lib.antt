@@ -1,5 +1,6 @@
 pub mod CellsLemmas
 pub mod EqualStructures
+pub mod KripkeLemmas
 pub mod LimitsLemmas
 pub mod PlacesLemmas
 pub mod RowListsLemmas

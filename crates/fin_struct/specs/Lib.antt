@@ -1,4 +1,5 @@
 pub mod Cells
+pub mod KripkeView
 pub mod Limits
 pub mod Places
 pub mod RowLists

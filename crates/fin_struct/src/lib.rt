@@ -7,6 +7,7 @@ ghost use Rattle.fin_struct.specs.RowLists.{ListsTell, ListsFit, ListsDetermine}
 
 mod condition;
 mod grid;
+mod kripke;
 mod limits;
 mod places;
 mod shapes;
@@ -14,6 +15,7 @@ mod structure;
 
 pub use condition::Condition;
 pub use grid::{Grid, GridShape};
+pub use kripke::Kripke;
 pub use limits::{ShapeError, cells};
 pub use structure::Structure;
 
