@@ -1,6 +1,7 @@
 pub mod CellsLemmas
 pub mod EqualStructures
 pub mod KripkeLemmas
+pub mod KripkeNames
 pub mod LimitsLemmas
 pub mod PlacesLemmas
 pub mod RowListsLemmas

@@ -1,4 +1,5 @@
 pub mod Cells
+pub mod KripkeLaws
 pub mod KripkeView
 pub mod Limits
 pub mod Places

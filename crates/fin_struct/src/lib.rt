@@ -3,6 +3,7 @@
 #![tactic(auto)]
 
 ghost use Rattle.fin_struct.specs.StructureView.{StructureLaw, StructuresDetermine};
+ghost use Rattle.fin_struct.specs.KripkeLaws.{PlacesLaw, NamesLaw};
 ghost use Rattle.fin_struct.specs.RowLists.{ListsTell, ListsFit, ListsDetermine};
 
 mod condition;
@@ -35,4 +36,15 @@ pub fn row_lists_law()
 pub fn structure_law()
     ensures over { StructureLaw }
     ensures determine { StructuresDetermine }
+{}
+
+/// In a Kripke structure for a signature each sort and each symbol has its table under its number, in its shape.
+pub fn kripke_places_law()
+    ensures { PlacesLaw }
+{}
+
+/// Where the names of the signature differ, what the model of a Kripke structure says of a name is what the structure has
+/// under its number.
+pub fn kripke_names_law()
+    ensures { NamesLaw }
 {}
