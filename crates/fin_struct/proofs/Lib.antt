@@ -1,6 +1,14 @@
+pub mod BlankKripke
 pub mod CellsLemmas
+pub mod ClassicalSorts
+pub mod CorrespondenceLemmas
 pub mod EqualStructures
+pub mod KripkeLemmas
+pub mod KripkeLists
+pub mod KripkeNames
+pub mod KripkeTables
 pub mod LimitsLemmas
 pub mod PlacesLemmas
 pub mod RowListsLemmas
 pub mod StructureLemmas
+pub mod TableSteps

@@ -7,8 +7,8 @@ use Rattle.nxf_tree.specs.Names.{same_text}
 use Rattle.nxf_tree.specs.Rows.{Table, Shape, numbers_below, in_front, all_rows, has_row, those_in, value_of_row, beside, AllBelow, IsTableOf}
 use Rattle.nxf_meaning.proofs.Spelling.{same_text-refl, same_text-true, never}
 use Rattle.fin_struct.specs.Places.{rows_count, InRange, place}
-use Rattle.fin_struct.specs.Cells.{CellTable, bound_of}
-use Rattle.fin_struct.specs.RowLists.{marked, rows_of, listed, entry, IsFilled, ListsTell, ListsFit, ListsDetermine}
+use Rattle.fin_struct.specs.Cells.{CellTable, bound_of, cell}
+use Rattle.fin_struct.specs.RowLists.{marked, true_rows, rows_of, listed, entry, IsFilled, ListsTell, ListsFit, ListsDetermine}
 use Rattle.fin_struct.proofs.PlacesLemmas.{place_below}
 
 -- the row at a place
@@ -137,6 +137,15 @@ once sizes row h =
           sym at ∙ ap (place sizes) (sym is ∙ e);
       here = all_rows-at sizes row h;
     }
+
+-- the rows of a table say what its cells say
+pub true_row-cell : (table : CellTable) (row : List ℕ) → IsFilled table → InRange table.sizes row → has_row row (true_rows table) ≡ nat_eq (cell table row) 1
+true_row-cell table row f h =
+    has_once (all_rows table.sizes) table.cells row (place table.sizes row) (omega (arith, f.count, length-all_rows table.sizes)) (once table.sizes row h)
+
+pub value_row-cell : (table : CellTable) (row : List ℕ) → IsFilled table → InRange table.sizes row → value_of_row row (beside (all_rows table.sizes) table.cells) ≡ cell table row
+value_row-cell table row f h =
+    value_once (all_rows table.sizes) table.cells row (place table.sizes row) (omega (arith, f.count, length-all_rows table.sizes)) (once table.sizes row h)
 
 small_bit : (c : ℕ) → c < 2 → (if nat_eq c 1 then 1 else 0) ≡ c
 small_bit zero h = refl

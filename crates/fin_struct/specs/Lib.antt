@@ -1,4 +1,8 @@
 pub mod Cells
+pub mod Correspondence
+pub mod ExistenceTable
+pub mod KripkeLaws
+pub mod KripkeView
 pub mod Limits
 pub mod Places
 pub mod RowLists

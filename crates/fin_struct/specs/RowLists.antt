@@ -1,5 +1,5 @@
 -- The lists of rows that tables of cells stand for: the tables of the definitions.
-use Rattle.std.specs.Prelude.{◌≡◌, ℕ, ◌<◌, nat_eq, if◌then◌else◌, List, [], ◌∷◌, map, length, replicate, slice_index, Option, None, Some}
+use Rattle.std.specs.Prelude.{◌≡◌, ℕ, ◌<◌, Bool, nat_eq, if◌then◌else◌, List, [], ◌∷◌, map, length, replicate, slice_index, Option, None, Some}
 use Rattle.nxf_tree.specs.Rows.{Table, Rows, Values, Shape, all_rows, has_row, value_of_row, beside, IsTable}
 use Rattle.fin_struct.specs.Places.{rows_count, InRange}
 use Rattle.fin_struct.specs.Cells.{CellTable, bound_of, cell, table_at}
@@ -10,10 +10,18 @@ marked [] cells = []
 marked (row ∷ rows) [] = []
 marked (row ∷ rows) (c ∷ cells) = if nat_eq c 1 then row ∷ marked rows cells else marked rows cells
 
+-- the rows of a table whose cells are 1
+abbrev pub true_rows : CellTable → List (List ℕ)
+true_rows table = marked (all_rows table.sizes) table.cells
+
 -- the true rows of a predicate, or each row of a function beside its value
 abbrev pub rows_of : Option ℕ → List (List ℕ) → List ℕ → Table
 rows_of None rows cells = Rows (marked rows cells)
 rows_of (Some size) rows cells = Values (beside rows cells)
+
+-- the cell of a row that is true, or isn't
+abbrev pub bit_of : Bool → ℕ
+bit_of b = if b then 1 else 0
 
 -- the table of the definitions
 abbrev pub listed : CellTable → Table
@@ -24,7 +32,7 @@ shape_of table = record { sizes = table.sizes; values = table.values }
 
 -- what a table of the definitions has at a row: 1 for a true row of a predicate and 0 for another, or the value of a function
 abbrev pub entry : Table → List ℕ → ℕ
-entry (Rows rows) row = if has_row row rows then 1 else 0
+entry (Rows rows) row = bit_of (has_row row rows)
 entry (Values rows) row = value_of_row row rows
 
 -- as many cells as rows, each below the bound

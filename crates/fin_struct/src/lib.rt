@@ -2,18 +2,25 @@
 //! cells by row, and the lists of rows of the definitions.
 #![tactic(auto)]
 
-ghost use Rattle.fin_struct.specs.StructureView.{StructureLaw, StructuresDetermine};
+ghost use Rattle.fin_struct.specs.StructureView.{HasSortsLaw, StructureLaw, StructuresDetermine};
+ghost use Rattle.fin_struct.specs.Correspondence.{CorrespondenceLaw};
+ghost use Rattle.fin_struct.specs.KripkeLaws.{KripkeLaw, KripkesDetermine, OwnTablesLaw, PlacesLaw, NamesLaw};
 ghost use Rattle.fin_struct.specs.RowLists.{ListsTell, ListsFit, ListsDetermine};
 
+mod classical_signature;
 mod condition;
 mod grid;
+mod kripke;
+mod kripke_tables;
 mod limits;
 mod places;
 mod shapes;
 mod structure;
 
+pub use classical_signature::classical;
 pub use condition::Condition;
 pub use grid::{Grid, GridShape};
+pub use kripke::Kripke;
 pub use limits::{ShapeError, cells};
 pub use structure::Structure;
 
@@ -33,4 +40,34 @@ pub fn row_lists_law()
 pub fn structure_law()
     ensures over { StructureLaw }
     ensures determine { StructuresDetermine }
+{}
+
+/// The classical signature of a well-formed signature has what a structure over it needs.
+pub fn classical_law()
+    ensures { HasSortsLaw }
+{}
+
+/// In a Kripke structure for a signature each sort and each symbol has its table under its number, in its shape.
+pub fn kripke_places_law()
+    ensures { PlacesLaw }
+{}
+
+/// Where the names of the signature differ, what the model of a Kripke structure says of a name is what the structure has
+/// under its number.
+pub fn kripke_names_law()
+    ensures { NamesLaw }
+{}
+
+/// A Kripke structure for a signature is over it, as the definitions have it; no other for that signature has the same
+/// lists of rows; and different relations, sorts and symbols have different tables.
+pub fn kripke_law()
+    ensures over { KripkeLaw }
+    ensures determine { KripkesDetermine }
+    ensures apart { OwnTablesLaw }
+{}
+
+/// For each Kripke structure for a well-formed signature there is exactly one structure for its classical signature that
+/// corresponds, and for each of these exactly one Kripke structure.
+pub fn correspondence_law()
+    ensures { CorrespondenceLaw }
 {}
