@@ -1,5 +1,7 @@
 pub mod CellsLemmas
+pub mod Counted
 pub mod EqualStructures
+pub mod FirstFaultLemmas
 pub mod KripkeLemmas
 pub mod KripkeNames
 pub mod LimitsLemmas

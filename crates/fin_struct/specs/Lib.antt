@@ -1,4 +1,5 @@
 pub mod Cells
+pub mod FirstFault
 pub mod KripkeLaws
 pub mod KripkeView
 pub mod Limits

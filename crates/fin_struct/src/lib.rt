@@ -4,6 +4,7 @@
 
 ghost use Rattle.fin_struct.specs.StructureView.{StructureLaw, StructuresDetermine};
 ghost use Rattle.fin_struct.specs.KripkeLaws.{PlacesLaw, NamesLaw};
+ghost use Rattle.fin_struct.specs.FirstFault.{OneFirstFault, FrameConditions, DomainConditions, TermConditions};
 ghost use Rattle.fin_struct.specs.RowLists.{ListsTell, ListsFit, ListsDetermine};
 
 mod condition;
@@ -47,4 +48,13 @@ pub fn kripke_places_law()
 /// under its number.
 pub fn kripke_names_law()
     ensures { NamesLaw }
+{}
+
+/// Of conditions in a list at most one is the first that fails. The conditions of frames, domains and terms hold one by one
+/// exactly where they hold by their definition.
+pub fn conditions_law()
+    ensures one { OneFirstFault }
+    ensures frames { FrameConditions }
+    ensures domains { DomainConditions }
+    ensures terms { TermConditions }
 {}
