@@ -45,6 +45,10 @@ all_implies n true p q = refl
 all_implies n false p q = all_pass n
 
 -- an implication, by its parts
+pub implies_any : (a : Bool) → implies a true ≡ true
+implies_any true = refl
+implies_any false = refl
+
 pub implies_true : (a b : Bool) → (a ≡ true → b ≡ true) → implies a b ≡ true
 implies_true true b h = h refl
 implies_true false b h = refl

@@ -1,9 +1,10 @@
 -- The first condition that fails is the first that `find` finds to fail.
-use Rattle.std.proofs.Common.{◌≡◌, ℕ, zero, suc, ◌+◌, Bool, true, false, cond, List, [], ◌∷◌, ◌++◌, refl, sym, ap, ◌∙◌, Option, None, Some, ◌↔◌, arith}
+use Rattle.std.proofs.Common.{◌≡◌, ℕ, zero, suc, ◌+◌, ◌<◌, Bool, true, false, cond, List, [], ◌∷◌, ◌++◌, length, get_or, drop, refl, sym, ap, subst, ◌∙◌, Option, None, Some, ◌↔◌, arith}
 use Rattle.std.specs.Prelude.{◌&&◌, not, map, if◌then◌else◌, slice_get}
 use Rattle.std.specs.List.{list_all, find}
 use Rattle.std.specs.Option.{option_or, option_map}
 use Rattle.std.proofs.lemmas.Bool.{and_from, and_parts, true≢false}
+use Rattle.std.proofs.lemmas.List.{drop_more}
 use Rattle.std.proofs.lemmas.List.Folds.{find-append, list_all-append, list_all-map}
 use Rattle.nxf_tree.specs.declared.tree.Signature.{Signature}
 use Rattle.nxf_tree.specs.declared.tree.IndexEntry.{IndexEntry}
@@ -77,12 +78,31 @@ none_exactly {X} holds xs (Some x) first = (λ e. absurd (some_none x e), λ all
     some_none : (y : X) → Some y ≡ None → ⊥
     some_none y e = cc
 
+-- what the first that `find` finds tells
+pub first_told : {X : Type 0} (holds : X → Bool) (xs : List X) (found : Option X) → first_failing holds xs ≡ found → IsFirstFailing holds xs found
+first_told {X} holds xs found e = let P : Option X → Type 0 = IsFirstFailing holds xs in subst P e (first_found holds xs)
+
+pub none_told : {X : Type 0} (holds : X → Bool) (xs : List X) (found : Option X) (all : Bool) → list_all holds xs ≡ all → first_failing holds xs ≡ found → (found ≡ None) ↔ (all ≡ true)
+none_told holds xs found all is e =
+    let exactly = none_exactly holds xs found (first_told holds xs found e) in
+    (λ none. sym is ∙ exactly.0 none, λ t. exactly.1 (is ∙ t))
+
 -- a list in two parts
 pub front_holds : {X : Type 0} (holds : X → Bool) (xs ys : List X) → first_failing holds xs ≡ None → first_failing holds (xs ++ ys) ≡ first_failing holds ys
 front_holds holds xs ys e = find-append (λ y. not (holds y)) xs ys ∙ ap (λ o. option_or o (first_failing holds ys)) e
 
 pub front_fails : {X : Type 0} (holds : X → Bool) (xs ys : List X) (x : X) → first_failing holds xs ≡ Some x → first_failing holds (xs ++ ys) ≡ Some x
 front_fails holds xs ys x e = find-append (λ y. not (holds y)) xs ys ∙ ap (λ o. option_or o (first_failing holds ys)) e
+
+-- a loop over a list finds the first that fails: what is left after one that holds, and one that fails
+pub first-holds : {X : Type 0} (holds : X → Bool) (x : X) (xs : List X) → holds x ≡ true → first_failing holds (x ∷ xs) ≡ first_failing holds xs
+first-holds holds x xs e = ap (λ b. cond (not b) (Some x) (first_failing holds xs)) e
+
+pub first-fails : {X : Type 0} (holds : X → Bool) (x : X) (xs : List X) → holds x ≡ false → first_failing holds (x ∷ xs) ≡ Some x
+first-fails holds x xs e = ap (λ b. cond (not b) (Some x) (first_failing holds xs)) e
+
+pub drop-read : {X : Type 0} (xs : List X) (i : ℕ) (x : X) → i < length xs → x ≡ get_or xs i x → drop i xs ≡ x ∷ drop (i + 1) xs
+drop-read xs i x below is = drop_more xs i x below ∙ ap (λ y. y ∷ drop (i + 1) xs) (sym is)
 
 -- under another name
 first-step : {X Y : Type 0} (f : X → Y) (x : X) (found : Option Y) (other : Option X) → found ≡ option_map f other → (b : Bool) → cond (not b) (Some (f x)) found ≡ option_map f (cond (not b) (Some x) other)
@@ -92,6 +112,24 @@ first-step f x found other e false = refl
 pub first-map : {X Y : Type 0} (holds : Y → Bool) (f : X → Y) (xs : List X) → first_failing holds (map f xs) ≡ option_map f (first_failing (λ x. holds (f x)) xs)
 first-map holds f [] = refl
 first-map holds f (x ∷ xs) = first-step f x _ _ (first-map holds f xs) (holds (f x))
+
+-- the name of an index under its number
+pub index_at-place : (entries : List IndexEntry) (i : ℕ) (entry : IndexEntry) → slice_get entries i ≡ Some entry → index_at entries i ≡ entry.name
+index_at-place [] i entry e = absurd cc
+index_at-place (first ∷ entries) zero entry e = ap (λ (x : IndexEntry). x.name) (some first entry e)
+  where
+    some : (a b : IndexEntry) → Some a ≡ Some b → a ≡ b
+    some a b e = cc
+index_at-place (first ∷ entries) (suc i) entry e = index_at-place entries i entry e
+
+-- the regime of a sort under its number
+pub regime_at-place : (entries : List SortEntry) (s : ℕ) (entry : SortEntry) → slice_get entries s ≡ Some entry → regime_at entries s ≡ entry.regime
+regime_at-place [] s entry e = absurd cc
+regime_at-place (first ∷ entries) zero entry e = ap (λ (x : SortEntry). x.regime) (some first entry e)
+  where
+    some : (a b : SortEntry) → Some a ≡ Some b → a ≡ b
+    some a b e = cc
+regime_at-place (first ∷ entries) (suc s) entry e = regime_at-place entries s entry e
 
 -- each condition of the frames
 frames-all : (sig : Signature) (K : KripkeModel) (i : ℕ) (entries : List IndexEntry) → ((k : ℕ) → index_at entries k ≡ index_at sig.indexes (i + k))
