@@ -12,7 +12,7 @@ abbrev rest_of : {A : Type 0} → List A → List A
 rest_of [] = []
 rest_of (x ∷ xs) = xs
 
-same_tables : (tables others : List CellTable) → AreFilled tables → AreFilled others → shapes_of tables ≡ shapes_of others → map listed tables ≡ map listed others → tables ≡ others
+pub same_tables : (tables others : List CellTable) → AreFilled tables → AreFilled others → shapes_of tables ≡ shapes_of others → map listed tables ≡ map listed others → tables ≡ others
 same_tables [] [] f g shapes lists = refl
 same_tables [] (other ∷ others) f g shapes lists = absurd (omega (arith, ap length shapes))
 same_tables (table ∷ tables) [] f g shapes lists = absurd (omega (arith, ap length shapes))

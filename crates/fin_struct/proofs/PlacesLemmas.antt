@@ -13,7 +13,8 @@ InRange-length [] (x ∷ row) h = absurd h
 InRange-length (size ∷ sizes) [] h = absurd h
 InRange-length (size ∷ sizes) (x ∷ row) h = ap suc (InRange-length sizes row h.1)
 
-capped : (a r most : ℕ) → 0 < r → min (min a most * r) most ≡ min (a * r) most
+-- a factor of a capped number
+pub capped : (a r most : ℕ) → 0 < r → min (min a most * r) most ≡ min (a * r) most
 capped a r most pos = elim (cases_lt most a) [
   | inl over ↦
       let m : most * 1 ≤ most * r = mul-le-mul_left most pos in

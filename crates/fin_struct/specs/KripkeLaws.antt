@@ -1,5 +1,5 @@
 -- Kripke structures as contracts see them, beside those of the definitions.
-use Rattle.std.specs.Prelude.{◌≡◌, ℕ, ◌<◌, true, false, List, ◌∷◌, length, slice_get, None, Some}
+use Rattle.std.specs.Prelude.{◌≡◌, ℕ, ◌<◌, ◌≤◌, true, false, List, ◌∷◌, length, slice_get, None, Some}
 use Rattle.std.specs.Option.{IsSome}
 use Rattle.nxf_tree.specs.declared.tree.Signature.{Signature}
 use Rattle.nxf_tree.specs.declared.tree.SortEntry.{SortEntry}
@@ -8,7 +8,7 @@ use Rattle.nxf_tree.specs.declared.tree.IndexEntry.{IndexEntry}
 use Rattle.nxf_tree.specs.Signature.{constant_regime, takes_world}
 use Rattle.nxf_tree.specs.Rows.{size_at}
 use Rattle.nxf_tree.specs.Kripke.{KripkeModel}
-use Rattle.nxf_tree.specs.Structures.{symbol_shape, kripke_model}
+use Rattle.nxf_tree.specs.Structures.{IsOver, symbol_shape, kripke_model}
 use Rattle.nxf_tree.specs.WellFormed.{HasDifferentNames}
 use Rattle.fin_struct.specs.Places.{InRange}
 use Rattle.fin_struct.specs.RowLists.{shape_of}
@@ -40,3 +40,21 @@ abbrev pub NamesLaw : Type 0
 NamesLaw =
     (sig : Signature) (view : KripkeView) → HasDifferentNames sig → IsKripke view → IsKripkeFor sig view
     → ReadsByName sig view (kripke_model sig (kripke_structure view))
+
+-- a Kripke structure for a signature is over it, as the definitions have it
+abbrev pub KripkeLaw : Type 0
+KripkeLaw = (sig : Signature) (view : KripkeView) → IsKripke view → IsKripkeFor sig view → IsOver sig (kripke_structure view)
+
+-- Kripke structures for one signature with equal lists of rows are equal
+abbrev pub KripkesDetermine : Type 0
+KripkesDetermine =
+    (sig : Signature) (view other : KripkeView) → IsKripke view → IsKripke other → IsKripkeFor sig view → IsKripkeFor sig other
+    → kripke_structure view ≡ kripke_structure other → view ≡ other
+
+-- the numbers of tables are different for different relations, sorts and symbols
+pub record HasOwnTables (view : KripkeView) : Type 0 where
+  pub existing : (s t : ℕ) → existence_number view s ≡ Some t → (view.indexes ≤ t) × (t < view.first_symbol)
+  pub different : (s r t : ℕ) → existence_number view s ≡ Some t → existence_number view r ≡ Some t → s ≡ r
+
+abbrev pub OwnTablesLaw : Type 0
+OwnTablesLaw = (view : KripkeView) → IsKripke view → HasOwnTables view

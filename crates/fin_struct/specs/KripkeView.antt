@@ -2,11 +2,11 @@
 use Rattle.std.specs.Prelude.{◌≡◌, ℕ, suc, ◌+◌, ◌<◌, Bool, true, false, nat_eq, if◌then◌else◌, List, [], ◌∷◌, ◌++◌, map, length, take, drop, slice_index_or, Option, None, Some}
 use Rattle.nxf_tree.specs.declared.tree.Signature.{Signature}
 use Rattle.nxf_tree.specs.declared.tree.SortEntry.{SortEntry}
-use Rattle.nxf_tree.specs.Signature.{constant_regime, takes_world}
+use Rattle.nxf_tree.specs.Signature.{constant_regime, takes_world, existence_sorts}
 use Rattle.nxf_tree.specs.Rows.{Shape, size_at, AreSizes}
 use Rattle.nxf_tree.specs.Structures.{KripkeStructure, relation_shapes, existence_shapes, symbol_shapes}
 use Rattle.fin_struct.specs.Cells.{CellTable, cell, table_at}
-use Rattle.fin_struct.specs.RowLists.{true_rows, listed, shape_of, shapes_of, AreFilled}
+use Rattle.fin_struct.specs.RowLists.{true_rows, listed, shape_of, shapes_of, blanks, AreFilled}
 use Rattle.fin_struct.specs.Limits.{IsWithin, cells_in}
 
 -- the tables of the relations come first, then those of existence, then those of the symbols
@@ -116,6 +116,28 @@ pub record IsKripkeFor (sig : Signature) (view : KripkeView) : Type 0 where
   pub existence : view.existence ≡ numbers_from (length sig.indexes) sig.sorts
   pub world_first : view.world_first ≡ map takes_world sig.symbols
   pub shapes : shapes_of view.tables ≡ kripke_shapes sig view.worlds view.sizes
+
+-- a structure for the signature with these tables
+abbrev pub with_tables : Signature → ℕ → ℕ → List ℕ → List CellTable → KripkeView
+with_tables sig worlds actual sizes tables = record {
+  worlds = worlds;
+  actual = actual;
+  sizes = sizes;
+  indexes = length sig.indexes;
+  existence = numbers_from (length sig.indexes) sig.sorts;
+  first_symbol = length sig.indexes + length (existence_sorts sig.sorts);
+  world_first = map takes_world sig.symbols;
+  tables = tables;
+}
+
+-- a structure for the signature with these sizes: no pair, nobody exists in a sort that isn't constant, each function gives element 0, no row is true
+abbrev pub blank_kripke : Signature → ℕ → List ℕ → KripkeView
+blank_kripke sig worlds sizes = with_tables sig worlds 0 sizes (blanks (kripke_shapes sig worlds sizes))
+
+-- all sizes but the first
+abbrev pub others_of : List ℕ → List ℕ
+others_of [] = []
+others_of (size ∷ sizes) = sizes
 
 -- the pairs of the tables with these numbers
 abbrev pub existing_rows : List CellTable → List (Option ℕ) → List (List (List ℕ))

@@ -1,4 +1,6 @@
 pub mod Cells
+pub mod Correspondence
+pub mod ExistenceTable
 pub mod FirstFault
 pub mod KripkeLaws
 pub mod KripkeView

@@ -1,8 +1,11 @@
 -- A finite classical structure, as contracts see it, and the structure of the definitions that it is.
 use Rattle.std.specs.Prelude.{◌≡◌, ℕ, ◌<◌, List, map, length, slice_index_or, Option, None, Some}
+use Rattle.nxf_tree.specs.declared.tree.Signature.{Signature}
 use Rattle.nxf_tree.specs.declared.tree.ClassicalSignature.{ClassicalSignature}
 use Rattle.nxf_tree.specs.declared.tree.TableEntry.{TableEntry}
 use Rattle.nxf_tree.specs.Rows.{size_at, AreSizes}
+use Rattle.nxf_tree.specs.ClassicalSignature.{classical_signature_of}
+use Rattle.nxf_tree.specs.WellFormed.{IsWellFormed}
 use Rattle.nxf_tree.specs.Structures.{ClassicalStructure, IsOverClassical, table_shapes}
 use Rattle.fin_struct.specs.Cells.{CellTable}
 use Rattle.fin_struct.specs.RowLists.{listed, AreFilled, shapes_of, blanks}
@@ -42,6 +45,10 @@ GivesBelow n (Some sort) = sort < n
 pub record HasSorts (csig : ClassicalSignature) : Type 0 where
   pub some_sort : 0 < length csig.sorts
   pub values : (t : ℕ) (d : TableEntry) → t < length csig.tables → GivesBelow (length csig.sorts) (slice_index_or csig.tables t d).gives
+
+-- the classical signature of a well-formed signature has that
+abbrev pub HasSortsLaw : Type 0
+HasSortsLaw = (sig : Signature) → IsWellFormed sig → HasSorts (classical_signature_of sig)
 
 -- a structure for a classical signature is over it, as the definitions have it
 abbrev pub StructureLaw : Type 0

@@ -1,13 +1,21 @@
 //! Finite Kripke structures.
-ghost use Rattle.std.specs.Prelude.{◌≡◌, ◌↔◌, ℕ, ◌+◌, ◌<◌, List, [], ◌∷◌, length, slice_set, slice_index_or, nat_eq, None, IsSome, IsTrue, if◌then◌else◌};
+ghost use Rattle.std.specs.Prelude.{◌≡◌, ◌↔◌, ℕ, ◌+◌, ◌<◌, List, [], ◌∷◌, length, slice_set, slice_index_or, nat_eq, None, IsSome, IsTrue, IfOk, IfErr, if◌then◌else◌};
 ghost use Rattle.nxf_tree.specs.Rows as rows;
+ghost use Rattle.nxf_tree.specs.ClassicalSignature.{classical_signature_of};
+ghost use Rattle.nxf_tree.specs.WellFormed.{IsWellFormed};
+ghost use Rattle.fin_struct.specs.Limits.{cells_in, cells_of, IsWithin, IsRefusal};
 ghost use Rattle.fin_struct.specs.Places.{InRange, row_under};
 ghost use Rattle.fin_struct.specs.Cells.{table_at, cell, with_cell, bound_of};
 ghost use Rattle.fin_struct.specs.RowLists.{true_rows, listed, shapes_of, bit_of};
-ghost use Rattle.fin_struct.specs.KripkeView.{KripkeView, IsKripke, relation_table, related_in, existence_number, existence_place, exists_in, symbol_number, symbol_table, symbol_row, value_in, holds_in};
+ghost use Rattle.fin_struct.specs.KripkeView.{KripkeView, IsKripke, IsKripkeFor, kripke_shapes, blank_kripke, others_of, relation_table, related_in, existence_number, existence_place, exists_in, symbol_number, symbol_table, symbol_row, value_in, holds_in};
 
 use crate::grid::Grid;
-use crate::limits::size_at;
+use crate::kripke_tables::{kripke_cells, lay_out, world_columns};
+use crate::limits::{ShapeError, check_limits, size_at};
+use crate::shapes::copy_sizes;
+use nxf_base::List;
+use nxf_tree::Signature;
+use std::alloc::{AllocError, Global};
 use std::marker::Model;
 
 /// A finite Kripke structure over a signature. Contracts see the worlds, the size of each sort and the tables of cells:
@@ -36,6 +44,26 @@ impl Model for Kripke {
 }
 
 impl Kripke {
+    /// A Kripke structure with one size, at least 1, for each sort, that of the worlds first: no pair, nobody exists in a
+    /// sort that isn't constant, each function gives element 0, no row is true, and world 0 is the actual one. It is refused
+    /// where the first size is above 65,535, else where `cells` gives more than 4,194,304 for the classical signature, else
+    /// where there is no memory.
+    pub fn new(alloc: Global, over: &Signature, sizes: &List<u32>) -> Result<Kripke, ShapeError>
+        requires well_formed { IsWellFormed over.now }
+        requires sizes { rows.AreSizes (classical_signature_of over.now).sorts sizes.now }
+        ensures made { IfOk result (λ made. made ≡ blank_kripke over.now (rows.size_at sizes.now 0) (others_of sizes.now)) }
+        ensures over { IfOk result (λ made. IsKripkeFor over.now made) }
+        ensures within { IfOk result (λ made. IsKripke made) }
+        ensures refused { IfErr result (λ error. IsRefusal (rows.size_at sizes.now 0) (cells_of (classical_signature_of over.now) sizes.now) error) }
+    {
+        let sizes = sizes.as_slice();
+        check_sizes(over, sizes)?;
+        match make(alloc, over, size_at(sizes, 0), other_sizes(sizes)) {
+            Ok(made) => Ok(made),
+            Err(AllocError) => Err(ShapeError::Memory),
+        }
+    }
+
     /// The number of worlds.
     pub fn worlds(&self) -> u32
         ensures worlds { result ≡ self.now.worlds }
@@ -196,6 +224,54 @@ impl Kripke {
             None
         }
     }
+}
+
+// Refuses more than 65,535 worlds, and then more than 4,194,304 cells.
+fn check_sizes(over: &Signature, sizes: &[u32]) -> Result<(), ShapeError>
+    requires well_formed { IsWellFormed over.now }
+    requires sizes { rows.AreSizes (classical_signature_of over.now).sorts sizes.now }
+    ensures within { IfOk result (λ _. IsWithin (rows.size_at sizes.now 0) (cells_in (kripke_shapes over.now (rows.size_at sizes.now 0) (others_of sizes.now)))) }
+    ensures counted { IfOk result (λ _. IsWithin (rows.size_at sizes.now 0) (cells_of (classical_signature_of over.now) sizes.now)) }
+    ensures refused { IfErr result (λ error. IsRefusal (rows.size_at sizes.now 0) (cells_of (classical_signature_of over.now) sizes.now) error) }
+{
+    let worlds = size_at(sizes, 0);
+    let cells = kripke_cells(over, worlds, other_sizes(sizes));
+    check_limits(worlds, cells)
+}
+
+// All sizes but the first.
+fn other_sizes(sizes: &[u32]) -> &[u32]
+    ensures { result.now ≡ others_of sizes.now }
+{
+    match sizes.split_first() {
+        Some((_, others)) => others,
+        None => sizes,
+    }
+}
+
+// The structure with nothing written, within the limits.
+fn make(alloc: Global, over: &Signature, worlds: u32, sizes: &[u32]) -> Result<Kripke, AllocError>
+    requires well_formed { IsWellFormed over.now }
+    requires sizes { rows.AreSizes (classical_signature_of over.now).sorts (worlds ∷ sizes.now) }
+    requires within { IsWithin worlds (cells_in (kripke_shapes over.now worlds sizes.now)) }
+    ensures made { IfOk result (λ made. made ≡ blank_kripke over.now worlds sizes.now) }
+    ensures over { IfOk result (λ made. IsKripkeFor over.now made) }
+    ensures within { IfOk result (λ made. IsKripke made) }
+{
+    let layout = lay_out(alloc, over, worlds, sizes)?;
+    let world_first = world_columns(alloc, over.symbols.as_slice())?;
+    let grid = Grid::new(alloc, layout.shapes)?;
+    let sizes = copy_sizes(alloc, sizes)?;
+    Ok(Kripke {
+        worlds,
+        actual: 0,
+        sizes,
+        indexes: over.indexes.len() as u32,
+        existence: layout.existence,
+        first_symbol: layout.first_symbol,
+        world_first,
+        grid,
+    })
 }
 
 // The cell of a row that stands in a table, or of one that doesn't.

@@ -2,19 +2,23 @@
 //! cells by row, and the lists of rows of the definitions.
 #![tactic(auto)]
 
-ghost use Rattle.fin_struct.specs.StructureView.{StructureLaw, StructuresDetermine};
-ghost use Rattle.fin_struct.specs.KripkeLaws.{PlacesLaw, NamesLaw};
+ghost use Rattle.fin_struct.specs.StructureView.{HasSortsLaw, StructureLaw, StructuresDetermine};
+ghost use Rattle.fin_struct.specs.Correspondence.{CorrespondenceLaw};
+ghost use Rattle.fin_struct.specs.KripkeLaws.{KripkeLaw, KripkesDetermine, OwnTablesLaw, PlacesLaw, NamesLaw};
 ghost use Rattle.fin_struct.specs.FirstFault.{OneFirstFault, FrameConditions, DomainConditions, TermConditions};
 ghost use Rattle.fin_struct.specs.RowLists.{ListsTell, ListsFit, ListsDetermine};
 
+mod classical_signature;
 mod condition;
 mod grid;
 mod kripke;
+mod kripke_tables;
 mod limits;
 mod places;
 mod shapes;
 mod structure;
 
+pub use classical_signature::classical;
 pub use condition::Condition;
 pub use grid::{Grid, GridShape};
 pub use kripke::Kripke;
@@ -39,6 +43,11 @@ pub fn structure_law()
     ensures determine { StructuresDetermine }
 {}
 
+/// The classical signature of a well-formed signature has what a structure over it needs.
+pub fn classical_law()
+    ensures { HasSortsLaw }
+{}
+
 /// In a Kripke structure for a signature each sort and each symbol has its table under its number, in its shape.
 pub fn kripke_places_law()
     ensures { PlacesLaw }
@@ -57,4 +66,18 @@ pub fn conditions_law()
     ensures frames { FrameConditions }
     ensures domains { DomainConditions }
     ensures terms { TermConditions }
+{}
+
+/// A Kripke structure for a signature is over it, as the definitions have it; no other for that signature has the same
+/// lists of rows; and different relations, sorts and symbols have different tables.
+pub fn kripke_law()
+    ensures over { KripkeLaw }
+    ensures determine { KripkesDetermine }
+    ensures apart { OwnTablesLaw }
+{}
+
+/// For each Kripke structure for a well-formed signature there is exactly one structure for its classical signature that
+/// corresponds, and for each of these exactly one Kripke structure.
+pub fn correspondence_law()
+    ensures { CorrespondenceLaw }
 {}

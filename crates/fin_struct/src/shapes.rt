@@ -53,3 +53,10 @@ pub fn sizes_of(alloc: Global, sizes: &[u32], sorts: &[u32]) -> Result<Vec<u32>,
     }
     Ok(found)
 }
+
+/// The same sizes, in memory of their own.
+pub fn copy_sizes(alloc: Global, sizes: &[u32]) -> Result<Vec<u32>, AllocError>
+    ensures { IfOk result (λ copy. copy.items ≡ sizes.now) }
+{
+    sizes.to_vec(alloc)
+}

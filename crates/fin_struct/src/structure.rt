@@ -9,7 +9,7 @@ ghost use Rattle.fin_struct.specs.StructureView.{IsStructure, IsFor, HasSorts, b
 
 use crate::grid::Grid;
 use crate::limits::{ShapeError, cells, check_limits, size_at};
-use crate::shapes::table_shapes;
+use crate::shapes::{copy_sizes, table_shapes};
 use nxf_base::List;
 use nxf_tree::ClassicalSignature;
 use std::alloc::{AllocError, Global};
@@ -122,10 +122,4 @@ fn make(alloc: Global, over: &ClassicalSignature, sizes: &[u32]) -> Result<Struc
         sizes,
         grid,
     })
-}
-
-fn copy_sizes(alloc: Global, sizes: &[u32]) -> Result<Vec<u32>, AllocError>
-    ensures { IfOk result (λ copy. copy.items ≡ sizes.now) }
-{
-    sizes.to_vec(alloc)
 }
