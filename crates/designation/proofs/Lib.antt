@@ -1,2 +1,4 @@
 pub mod Adding
+pub mod FaultLemmas
+pub mod RowLemmas
 pub mod Rows

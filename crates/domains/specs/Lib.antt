@@ -1,1 +1,2 @@
 pub mod SortAxioms
+pub mod Steps

@@ -2,7 +2,9 @@ pub mod BlankKripke
 pub mod CellsLemmas
 pub mod ClassicalSorts
 pub mod CorrespondenceLemmas
+pub mod Counted
 pub mod EqualStructures
+pub mod FirstFaultLemmas
 pub mod KripkeLemmas
 pub mod KripkeLists
 pub mod KripkeNames

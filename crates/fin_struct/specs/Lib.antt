@@ -1,6 +1,7 @@
 pub mod Cells
 pub mod Correspondence
 pub mod ExistenceTable
+pub mod FirstFault
 pub mod KripkeLaws
 pub mod KripkeView
 pub mod Limits

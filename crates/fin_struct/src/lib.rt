@@ -5,6 +5,7 @@
 ghost use Rattle.fin_struct.specs.StructureView.{HasSortsLaw, StructureLaw, StructuresDetermine};
 ghost use Rattle.fin_struct.specs.Correspondence.{CorrespondenceLaw};
 ghost use Rattle.fin_struct.specs.KripkeLaws.{KripkeLaw, KripkesDetermine, OwnTablesLaw, PlacesLaw, NamesLaw};
+ghost use Rattle.fin_struct.specs.FirstFault.{OneFirstFault, FrameConditions, DomainConditions, TermConditions};
 ghost use Rattle.fin_struct.specs.RowLists.{ListsTell, ListsFit, ListsDetermine};
 
 mod classical_signature;
@@ -56,6 +57,15 @@ pub fn kripke_places_law()
 /// under its number.
 pub fn kripke_names_law()
     ensures { NamesLaw }
+{}
+
+/// Of conditions in a list at most one is the first that fails. The conditions of frames, domains and terms hold one by one
+/// exactly where they hold by their definition.
+pub fn conditions_law()
+    ensures one { OneFirstFault }
+    ensures frames { FrameConditions }
+    ensures domains { DomainConditions }
+    ensures terms { TermConditions }
 {}
 
 /// A Kripke structure for a signature is over it, as the definitions have it; no other for that signature has the same

@@ -2,9 +2,12 @@
 //! of memory.
 #![tactic(auto)]
 
+mod faults;
+mod relations;
 mod schemes;
 mod writing;
 
+pub use faults::first_fault;
 pub use writing::axioms;
 
 #[cfg(test)]
