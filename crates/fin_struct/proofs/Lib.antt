@@ -14,3 +14,4 @@ pub mod PlacesLemmas
 pub mod RowListsLemmas
 pub mod StructureLemmas
 pub mod TableSteps
+pub mod WrittenFor

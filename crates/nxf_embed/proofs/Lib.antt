@@ -1,6 +1,5 @@
 pub mod Declaring
 pub mod Printable
-pub mod TableSteps
 pub mod Numbering
 pub mod Choosing
 pub mod Read

@@ -6,9 +6,7 @@
 mod added;
 mod chosen;
 mod declare;
-mod tables;
 mod whole;
 
 pub use declare::declarations;
-pub use tables::classical_signature;
 pub use whole::embed;

@@ -11,7 +11,7 @@ ghost use Rattle.nxf_embed.specs.Kept.{KeepsCountermodels, KeepsWorlds};
 use crate::added::add_axioms;
 use crate::chosen::add_formulas;
 use crate::declare::declarations;
-use crate::tables::classical_signature;
+use fin_struct::classical;
 use nxf_base::Memory;
 use nxf_roles::Parts;
 use nxf_sorts::Checked;
@@ -29,7 +29,7 @@ pub fn embed(alloc: Global, checked: &Checked, parts: &Parts) -> Result<File, Me
     ensures keeps_countermodels { IfOk result (λ made. (file : File) → IsReadAs file checked.now parts.now → KeepsCountermodels checked.now.signature file made) }
     ensures equal_worlds { IfOk result (λ made. (file : File) → IsReadAs file checked.now parts.now → KeepsWorlds checked.now.signature file made) }
 {
-    let tables = classical_signature(alloc, checked.signature())?;
+    let tables = classical(alloc, checked.signature())?;
     let mut statements = declarations(alloc, &tables)?;
     drop(tables);
     add_axioms(alloc, checked.signature(), &mut statements)?;

@@ -1,5 +1,5 @@
--- The words have one answer at most, and a refusal in it is none of those that come from outside.
-use Rattle.std.proofs.Common.{◌≡◌, ℕ, List, Option, Some, Result, Ok, Err, refl, sym, ap, subst, ◌∙◌}
+-- The words have exactly one answer, and a refusal in it is none of those that come from outside.
+use Rattle.std.proofs.Common.{◌≡◌, ℕ, List, Option, None, Some, Result, Ok, Err, refl, sym, ap, subst, ◌∙◌}
 use Rattle.nxf_base.specs.Files.{Files}
 use Rattle.nxf_base.specs.declared.status.Status.{Status}
 use Rattle.nxf_base.specs.declared.status.Status.TheVariants as status
@@ -8,9 +8,13 @@ use Rattle.nxf_tree.specs.Profile.{Problem, Refusal, RefusedRole, RefusedSpec, R
 use Rattle.nxf_include.specs.declared.gather_error.GatherError.{GatherError}
 use Rattle.nxf_include.specs.declared.gather_error.GatherError.TheVariants as gather
 use Rattle.nxf_include.specs.Gathered.{Gathers}
+use Rattle.nxf_include.specs.Refusals.{IsOfFiles}
+use Rattle.nxf_include.specs.Steps.{ExactlyOne}
+use Rattle.nxf_include.proofs.ExactlyOne.{exactly_one}
 use Rattle.nxf_include.proofs.OneGathering.{one_gathering}
-use Rattle.nxf_run.specs.Forms.{Form, Embed}
-use Rattle.nxf_run.specs.Answer.{Answer, IsAnswer, IsOfFiles, no_form, later, embeds, answer_to, answer_by, status_of_refusal}
+use Rattle.nxf_include.proofs.SomeGathering.{some_gathering, gathering_of_files}
+use Rattle.nxf_run.specs.Forms.{Form, form_of, Embed, Later, NoForm}
+use Rattle.nxf_run.specs.Answer.{Answer, IsAnswer, Gathered, no_form, later, embeds, answer_to, answer_by, status_of_refusal}
 
 same_name : {a b : List ℕ} {form : Form} → form ≡ Embed a → form ≡ Embed b → a ≡ b
 same_name h k = let e = sym h ∙ k in cc
@@ -26,6 +30,24 @@ one_answer files words a b (embeds name outcome k g o) (no_form h) = absurd (let
 one_answer files words a b (embeds name outcome k g o) (later h) = absurd (let e = sym h ∙ k in cc)
 one_answer files words a b (embeds name outcome k g o) (embeds other result h f p) =
     ap answer_to (one_gathering files name outcome result g (subst (λ (n : List ℕ). Gathers files n result) (same_name h k) f))
+
+-- ---- there is an answer
+
+-- a gathering by the files; where they aren't told, any result is one
+some_outcome : (told : Option Files) (name : List ℕ) → (outcome : Result File GatherError) × Gathered told name outcome × IsOfFiles outcome
+some_outcome None name = (Err gather.TooMuch, tt, tt)
+some_outcome (Some files) name = let g = some_gathering files name in (g.0, g.1, gathering_of_files files name g.0 g.1)
+
+answer_by_form : (told : Option Files) (words : List (List ℕ)) (form : Form) → form_of words ≡ form → (answer : Answer) × IsAnswer told words answer
+answer_by_form told words (Embed name) e = let o = some_outcome told name in (answer_to o.0, embeds name o.0 e o.1 o.2)
+answer_by_form told words Later e = (Err status.NotYet, later e)
+answer_by_form told words NoForm e = (Err status.Usage, no_form e)
+
+pub some_answer : (told : Option Files) (words : List (List ℕ)) → (answer : Answer) × IsAnswer told words answer
+some_answer told words = answer_by_form told words (form_of words) refl
+
+pub exactly_one_answer : (files : Files) (words : List (List ℕ)) → ExactlyOne (IsAnswer (Some files) words)
+exactly_one_answer files words = exactly_one (IsAnswer (Some files) words) (some_answer (Some files) words) (one_answer files words)
 
 -- ---- what a refusal is
 

@@ -1,5 +1,5 @@
 -- The ways in which a run ends.
-use Rattle.std.proofs.Common.{◌≡◌, ◌≢◌, ◌≤◌, ℕ, List, Option, Some, Ok, Err, refl, sym, subst, ◌∙◌, arith}
+use Rattle.std.proofs.Common.{◌≡◌, ◌≢◌, ◌≤◌, ℕ, List, [], Option, Some, Ok, Err, refl, sym, subst, ◌∙◌, arith}
 use Rattle.std.specs.Prelude.{◌⊎◌}
 use mathlib.Core.Logic.{inl, inr}
 use Rattle.nxf_base.specs.Causes.{Rose}
@@ -10,10 +10,22 @@ use Rattle.nxf_base.specs.Write.{Appends}
 use Rattle.nxf_base.specs.declared.status.Status.{Status}
 use Rattle.nxf_base.specs.declared.status.Status.TheVariants as status
 use Rattle.nxf_include.specs.Roots.{files_of, Keeps, SomeFaultRose, EachMissRose}
-use Rattle.nxf_run.specs.Answer.{IsAnswer}
-use Rattle.nxf_run.specs.Ending.{AppendsSome, NamesFile, Follows, MayEnd, Reports, Completes}
+use Rattle.nxf_run.specs.Answer.{Answer, IsAnswer}
+use Rattle.nxf_run.specs.Ending.{AppendsSome, AppendsSomeOf, NamesFile, Follows, MayEnd, Reports, Completes}
 use Rattle.nxf_run.specs.Steps.{Refuses}
-use Rattle.nxf_run.proofs.Answering.{IsRefusal, one_answer, known_refusal}
+use Rattle.nxf_run.proofs.Answering.{IsRefusal, one_answer, some_answer, known_refusal}
+use Rattle.nxf_run.proofs.Appending.{appends_none}
+
+-- nothing of the answer was written
+none_of : (answer : Answer) (held : Option (List ℕ)) → AppendsSomeOf answer held held
+none_of (Ok text) held = record { done = []; rest = text; whole = refl; appends = appends_none held }
+none_of (Err s) held = refl
+
+-- want of memory, where nothing was written
+no_memory_follows : (told : Option Files) (words : List (List ℕ)) (held now : Option (List ℕ)) → now ≡ held → Follows told words status.Memory held now
+no_memory_follows told words held now same =
+    let some = some_answer told words in
+    (some.0, some.1, subst (λ x. AppendsSomeOf some.0 held x) (sym same) (none_of some.0 held))
 
 -- a refusal of the answer, where nothing was written
 answer_follows : (told : Option Files) (words : List (List ℕ)) (held : Option (List ℕ)) (s : Status) → IsRefusal s → IsAnswer told words (Err s) → Follows told words s held held
@@ -27,7 +39,7 @@ answer_follows told words held _ known h = (h, refl)
 refusal_follows : (told : Option Files) (words : List (List ℕ)) (held : Option (List ℕ)) (s : Status) → Refuses told words s → Follows told words s held held
 refusal_follows told words held s (inl h) = answer_follows told words held s (known_refusal told words s h) h
 refusal_follows told words held s (inr (inl e)) = subst (λ x. Follows told words x held held) (sym e) refl
-refusal_follows told words held s (inr (inr e)) = subst (λ x. Follows told words x held held) (sym e) (inl refl)
+refusal_follows told words held s (inr (inr e)) = subst (λ x. Follows told words x held held) (sym e) (no_memory_follows told words held held refl)
 
 pub not_ok : (told : Option Files) (words : List (List ℕ)) (s : Status) → Refuses told words s → s ≢ status.Ok
 not_ok told words s (inl h) e = subst IsRefusal e (known_refusal told words s h)
@@ -46,10 +58,10 @@ never_ok s result other (inr e) d = let x = sym e ∙ d in cc
 -- where the line of a status finds no memory, the run ends in want of memory
 memory_after : (told : Option Files) (words : List (List ℕ)) (held now : Option (List ℕ)) (s : Status) → s ≢ status.Ok → Follows told words s held now → Follows told words status.Memory held now
 memory_after told words held now status.Ok other h = absurd (other refl)
-memory_after told words held now status.WriteFault other h = inr h
+memory_after told words held now status.WriteFault other h = (Ok h.0, h.1, h.2)
 memory_after told words held now status.Memory other h = h
-memory_after told words held now status.ReadFault other h = inl h
-memory_after told words held now _ other h = inl h.1
+memory_after told words held now status.ReadFault other h = no_memory_follows told words held now h
+memory_after told words held now s other h = (Err s, h.0, h.1)
 
 module _ (words : List (List ℕ)) (shelves shelves_now : List Shelf) (out out_now : Option (List ℕ)) (faults faults_now : ℕ) where
   abbrev Ends : Status → Type 0
@@ -112,7 +124,7 @@ module _ (words : List (List ℕ)) (shelves shelves_now : List Shelf) (out out_n
 
   pub no_memory_ends : MayEnd words shelves shelves_now out out_now faults faults_now status.Memory
   no_memory_ends = record {
-    answers = inr (text, answer, some);
+    answers = (Ok text, answer, some);
     causes = record { no_file = λ name e. absurd (cc); read_fault = λ e. absurd (cc); write_fault = λ e. absurd (cc); keeps = keeps; later = later };
   }
 

@@ -16,6 +16,7 @@ use Rattle.nxf_grammar.specs.Spells.{Spells}
 use Rattle.nxf_include.specs.declared.gather_error.GatherError.{GatherError}
 use Rattle.nxf_include.specs.declared.gather_error.GatherError.TheVariants as gather
 use Rattle.nxf_include.specs.Gathered.{Gathers}
+use Rattle.nxf_include.specs.Refusals.{IsOfFiles}
 use Rattle.nxf_run.specs.Forms.{form_of, Embed, Later, NoForm}
 
 abbrev pub Answer : Type 0
@@ -48,12 +49,6 @@ answer_by file (Err refusal) = Err (status_of_refusal refusal)
 abbrev pub answer_to : Result File GatherError → Answer
 answer_to (Ok file) = answer_by file (problem_in file)
 answer_to (Err error) = Err (status_of_gathering error)
-
--- the files decide it: it is no failure of a library and no want of memory
-abbrev pub IsOfFiles : Result File GatherError → Type 0
-IsOfFiles (Err gather.ReadFault) = ⊥
-IsOfFiles (Err gather.Memory) = ⊥
-IsOfFiles _ = Unit {0}
 
 -- Such is the file of this name with all that it includes, where the files are told. Files that aren't told may be any.
 abbrev pub Gathered : Option Files → List ℕ → Result File GatherError → Type 0

@@ -10,7 +10,7 @@ use Rattle.nxf_base.specs.declared.status.Status.TheVariants as status
 use Rattle.nxf_tree.specs.declared.tree.File.{File}
 use Rattle.nxf_include.specs.Roots.{files_of, Keeps, SomeFaultRose, EachMissRose}
 use Rattle.nxf_run.specs.Forms.{form_of, Embed}
-use Rattle.nxf_run.specs.Answer.{IsAnswer, Gathered, IsTranslation}
+use Rattle.nxf_run.specs.Answer.{Answer, IsAnswer, Gathered, IsTranslation}
 
 -- some first bytes of these are added, or all of them, or none
 pub record AppendsSome (before now : Option (List ℕ)) (bytes : List ℕ) : Type 0 where
@@ -19,16 +19,17 @@ pub record AppendsSome (before now : Option (List ℕ)) (bytes : List ℕ) : Typ
   pub whole : done ++ rest ≡ bytes
   pub appends : Appends before now done
 
--- the text of the answer, or some of it
-abbrev pub HoldsText : Option Files → List (List ℕ) → Option (List ℕ) → Option (List ℕ) → Type 0
-HoldsText told words before now = (text : List ℕ) × IsAnswer told words (Ok text) × AppendsSome before now text
+-- some first bytes of the text of the answer are added, or all of it, or none; nothing where it is a refusal
+abbrev pub AppendsSomeOf : Answer → Option (List ℕ) → Option (List ℕ) → Type 0
+AppendsSomeOf (Ok text) before now = AppendsSome before now text
+AppendsSomeOf (Err refusal) before now = now ≡ before
 
--- The status and what `out` then holds, by the answer: its text; some of it where writing failed, or found no memory; and
--- else nothing more than before.
+-- The status and what `out` then holds, by the answer: its text; some of it where writing failed, or where there was no
+-- memory; and else nothing more than before.
 abbrev pub Follows : Option Files → List (List ℕ) → Status → Option (List ℕ) → Option (List ℕ) → Type 0
 Follows told words status.Ok before now = (text : List ℕ) × IsAnswer told words (Ok text) × Appends before now text
-Follows told words status.WriteFault before now = HoldsText told words before now
-Follows told words status.Memory before now = (now ≡ before) ⊎ HoldsText told words before now
+Follows told words status.WriteFault before now = (text : List ℕ) × IsAnswer told words (Ok text) × AppendsSome before now text
+Follows told words status.Memory before now = (answer : Answer) × IsAnswer told words answer × AppendsSomeOf answer before now
 Follows told words status.ReadFault before now = now ≡ before
 Follows told words refusal before now = IsAnswer told words (Err refusal) × (now ≡ before)
 

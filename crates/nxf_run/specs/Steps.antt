@@ -8,11 +8,12 @@ use Rattle.nxf_tree.specs.declared.tree.PartEntry.{PartEntry}
 use Rattle.nxf_tree.specs.Parts.{parts_of}
 use Rattle.nxf_tree.specs.Profile.{Problem, problem_in}
 use Rattle.nxf_tree.specs.WellFormed.{IsWellFormed}
+use Rattle.nxf_include.specs.Refusals.{IsOfFiles}
 use Rattle.nxf_include.specs.declared.gather_error.GatherError.{GatherError}
 use Rattle.nxf_sorts.specs.Checked.{CheckedFile}
 use Rattle.nxf_sorts.specs.NamedForm.{all_named, formulas_of}
 use Rattle.nxf_run.specs.Forms.{form_of, Embed}
-use Rattle.nxf_run.specs.Answer.{IsAnswer, Gathered, IsOfFiles, IsTranslation, answer_by, answer_to}
+use Rattle.nxf_run.specs.Answer.{IsAnswer, Gathered, IsTranslation, answer_by, answer_to}
 
 -- the translation of the file of this name with all that it includes
 abbrev pub FileTranslates : Option Files → List ℕ → List ℕ → Type 0

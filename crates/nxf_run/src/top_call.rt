@@ -2,7 +2,8 @@
 ghost use Rattle.std.specs.Prelude.{◌≡◌, ℕ, List, Some, map};
 ghost use Rattle.nxf_base.specs.Files.{Files};
 ghost use Rattle.nxf_include.specs.Roots.{files_of};
-ghost use Rattle.nxf_run.specs.Answer.{Answer, IsAnswer};
+ghost use Rattle.nxf_include.specs.Steps.{ExactlyOne};
+ghost use Rattle.nxf_run.specs.Answer.{IsAnswer};
 ghost use Rattle.nxf_run.specs.Ending.{Follows, HasCause, MayEnd, Reports, Completes, Means};
 
 use crate::output::{report, write_all};
@@ -63,7 +64,7 @@ pub fn run_over<L: Library, O: Sink, E: Sink>(
     }
 }
 
-/// Where the files are told, the words have one answer at most.
+/// Where the files are told, the words have exactly one answer.
 pub fn one_answer()
-    ensures { (files : Files) (words : List (List ℕ)) (one other : Answer) → IsAnswer (Some files) words one → IsAnswer (Some files) words other → one ≡ other }
+    ensures { (files : Files) (words : List (List ℕ)) → ExactlyOne (IsAnswer (Some files) words) }
 {}

@@ -2,9 +2,9 @@
 #![tactic(auto)]
 
 #[cfg(test)]
-mod embed;
+mod deceiving;
 #[cfg(test)]
-mod failing;
+mod embed;
 #[cfg(test)]
 mod outcome;
 #[cfg(test)]

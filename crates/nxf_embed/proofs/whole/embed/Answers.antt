@@ -15,7 +15,7 @@ use Rattle.nxf_embed.proofs.whole.embed.Goals as goal
 pub returns-clause-written : goal.returns-clause-written
 returns-clause-written c file read =
     let sig = c.args.checked.now.signature in
-    let tables : c.in_ok-tables.tables ≡ classical_signature_of sig = c.in_ok-tables.ensures ∙ ap classical_signature_of c.signature.ensures.value in
+    let tables : c.in_ok-tables.tables ≡ classical_signature_of sig = c.in_ok-tables.ensures.made ∙ ap classical_signature_of c.signature.ensures.value in
     let declared : c.in_ok-statements.statements ≡ declarations (classical_signature_of sig) = c.in_ok-statements.ensures ∙ ap declarations tables in
     let added : c.add_axioms.new.statements ≡ declarations (classical_signature_of sig) ++ axiom_statements 1 (added_axioms sig) =
     c.in_ok-add_axioms.ensures ∙ (λ i. declared i ++ axiom_statements 1 (added_axioms (c.signature-2.ensures.value i))) in

@@ -1,5 +1,5 @@
-use Rattle.nxf_run.proofs.Answering.{one_answer}
+use Rattle.nxf_run.proofs.Answering.{exactly_one_answer}
 use Rattle.nxf_run.proofs.top_call.one_answer.Goals as goal
 
 pub returns : goal.returns
-returns c = one_answer
+returns c = exactly_one_answer
