@@ -1,5 +1,5 @@
-//! Finite classical structures over a classical signature, whose tables stand in one flat list of cells: contracts see the
-//! cells by row, and the lists of rows of the definitions.
+//! Finite structures over a signature: classical and Kripke structures, whose tables stand in one flat list of cells, and
+//! the conditions on them. Contracts see the cells by row, and the lists of rows of the definitions.
 #![tactic(auto)]
 
 ghost use Rattle.fin_struct.specs.StructureView.{HasSortsLaw, StructureLaw, StructuresDetermine};
