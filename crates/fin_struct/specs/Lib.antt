@@ -3,6 +3,7 @@ pub mod Correspondence
 pub mod ExistenceTable
 pub mod KripkeLaws
 pub mod KripkeView
+pub mod KripkeWrites
 pub mod Limits
 pub mod Places
 pub mod RowLists
