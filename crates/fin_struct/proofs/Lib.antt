@@ -9,6 +9,7 @@ pub mod KripkeLemmas
 pub mod KripkeLists
 pub mod KripkeNames
 pub mod KripkeTables
+pub mod KripkeWritesLemmas
 pub mod LimitsLemmas
 pub mod PlacesLemmas
 pub mod RowListsLemmas

@@ -4,6 +4,7 @@ pub mod ExistenceTable
 pub mod FirstFault
 pub mod KripkeLaws
 pub mod KripkeView
+pub mod KripkeWrites
 pub mod Limits
 pub mod Places
 pub mod RowLists

@@ -6,6 +6,7 @@ ghost use Rattle.fin_struct.specs.StructureView.{HasSortsLaw, StructureLaw, Stru
 ghost use Rattle.fin_struct.specs.Correspondence.{CorrespondenceLaw};
 ghost use Rattle.fin_struct.specs.KripkeLaws.{KripkeLaw, KripkesDetermine, OwnTablesLaw, PlacesLaw, NamesLaw};
 ghost use Rattle.fin_struct.specs.FirstFault.{OneFirstFault, FrameConditions, DomainConditions, TermConditions};
+ghost use Rattle.fin_struct.specs.KripkeWrites.{PairLaw, ExistenceLaw, RowLaw};
 ghost use Rattle.fin_struct.specs.RowLists.{ListsTell, ListsFit, ListsDetermine};
 
 mod classical_signature;
@@ -80,4 +81,12 @@ pub fn kripke_law()
 /// corresponds, and for each of these exactly one Kripke structure.
 pub fn correspondence_law()
     ensures { CorrespondenceLaw }
+{}
+
+/// Where one pair or row of a Kripke structure is written, each other pair, each other row and each other existence reads
+/// as before.
+pub fn kripke_writes_law()
+    ensures pair { PairLaw }
+    ensures existence { ExistenceLaw }
+    ensures row { RowLaw }
 {}
