@@ -99,6 +99,17 @@ struct Grudging {
     fault_at: u64,
 }
 
+impl Grudging {
+    fn new(alloc: Global, no_memory_at: u64, fault_at: u64) -> Grudging {
+        Grudging {
+            taken: Vec::new(alloc),
+            writes: 0,
+            no_memory_at,
+            fault_at,
+        }
+    }
+}
+
 impl Sink for Grudging {
     ghost held = { λ s. None };
 
@@ -120,15 +131,6 @@ impl Sink for Grudging {
     }
 }
 
-fn grudging(alloc: Global, no_memory_at: u64, fault_at: u64) -> Grudging {
-    Grudging {
-        taken: Vec::new(alloc),
-        writes: 0,
-        no_memory_at,
-        fault_at,
-    }
-}
-
 fn words_of(alloc: Global, words: &[&str]) -> Result<List<Text>, Fail> {
     let mut list = List::new(alloc);
     for word in words {
@@ -147,7 +149,7 @@ fn fickle_library(rt: HostRuntime) -> Result<(), Fail> {
     if roots.push(boxed).is_err() {
         return Err(Fail::new("no memory"));
     }
-    let mut out = grudging(alloc, 20, 40);
+    let mut out = Grudging::new(alloc, 20, 40);
     let lines: [&str; 7] = [
         "3||no file -\n",
         "4||read fault\n",
@@ -178,7 +180,10 @@ fn fickle_library_first(rt: HostRuntime) -> Result<(), Fail> {
     let first: Boxed = Box::new(alloc, Fickle { alloc, loads: 0 })?;
     let second: Boxed = Box::new(alloc, library)?;
     let mut roots = Roots::new(alloc);
-    if roots.push(first).is_err() || roots.push(second).is_err() {
+    if roots.push(first).is_err() {
+        return Err(Fail::new("no memory"));
+    }
+    if roots.push(second).is_err() {
         return Err(Fail::new("no memory"));
     }
     let lines: [&str; 3] = ["9||syntax - 1\n", "4||read fault\n", "20||no memory\n"];
@@ -199,11 +204,11 @@ fn grudging_error_output(rt: HostRuntime) -> Result<(), Fail> {
     let words = words_of(alloc, &["embed", "-"])?;
     let mut roots = Roots::new(alloc);
     let mut out = CalmSink::new(alloc);
-    let mut cut = grudging(alloc, 0, 4);
+    let mut cut = Grudging::new(alloc, 0, 4);
     let status = run(alloc, &words, &mut roots, &mut out, &mut cut);
     let found = summary(alloc, status.code(), out.bytes(), cut.taken.as_slice())?;
     assert_eq!(rt; found.as_slice(), b"3||no ".as_slice());
-    let mut short = grudging(alloc, 4, 0);
+    let mut short = Grudging::new(alloc, 4, 0);
     let status = run(alloc, &words, &mut roots, &mut out, &mut short);
     let found = summary(alloc, status.code(), out.bytes(), short.taken.as_slice())?;
     assert_eq!(rt; found.as_slice(), b"20||no ".as_slice());
