@@ -1,9 +1,7 @@
-ghost use Rattle.std.specs.Prelude.{◌≡◌, ◌∷◌, [], None, Some, codes, IfOk};
-ghost use Rattle.nxf_tree.specs.WellFormed.{IsWellFormed};
-ghost use Rattle.fin_struct.specs.KripkeView.{blank_kripke};
+ghost use Rattle.std.specs.Prelude.{◌≡◌, ◌<◌, ◌∷◌, [], None, Some, codes, IfOk};
 
 use crate::limits::check_limits;
-use crate::{Kripke, ShapeError, cells};
+use crate::{Kripke, ShapeError, Structure, cells, classical};
 use nxf_base::{List, Memory, Text};
 use nxf_tree::{
     ClassicalSignature, Designation, IndexEntry, IndexName, Locality, Regime, Signature, SortEntry,
@@ -49,6 +47,10 @@ fn cells_are_counted(rt: HostRuntime) -> Result<(), Fail> {
         let sizes = numbers(alloc, &[worlds, size])?;
         assert_eq!(rt; cells(&binary, &sizes), count);
     }
+    let arguments = vec![in alloc; 0; 1_001]?;
+    let long = with_table(alloc, &arguments)?;
+    assert_eq!(rt; cells(&long, &numbers(alloc, &[1])?), 1);
+    assert_eq!(rt; cells(&long, &numbers(alloc, &[2])?), u64::MAX);
     let many = with_table(alloc, &[1, 1, 1])?;
     let sizes = numbers(alloc, &[1, 4_294_967_295])?;
     assert_eq!(rt; cells(&many, &sizes), u64::MAX);
@@ -128,8 +130,102 @@ fn pairs_of_worlds(rt: HostRuntime) -> Result<(), Fail> {
     let sizes = numbers(alloc, &[2, 2, 3])?;
     let mut kripke = Kripke::new(alloc, &signature, &sizes)?;
     assert_eq!(rt; (kripke.worlds(), kripke.actual()), (2, 0));
-    assert!(rt; !kripke.related(0, 0, 1));
     kripke.set_related(0, 0, 1, true);
     assert!(rt; kripke.related(0, 0, 1));
+    assert!(rt; !kripke.related(0, 1, 0));
+    Ok(())
+}
+
+#[test]
+fn elements_at_worlds(rt: HostRuntime) -> Result<(), Fail> {
+    let alloc = rt.alloc();
+    let signature = small(alloc)?;
+    let sizes = numbers(alloc, &[2, 2, 3])?;
+    let mut kripke = Kripke::new(alloc, &signature, &sizes)?;
+    assert!(rt; kripke.exists(1, 1, 2));
+    kripke.set_exists(0, 1, 0, true);
+    assert!(rt; kripke.exists(0, 1, 0));
+    assert!(rt; !kripke.exists(0, 0, 1));
+    Ok(())
+}
+
+#[test]
+fn values_at_worlds(rt: HostRuntime) -> Result<(), Fail> {
+    let alloc = rt.alloc();
+    let signature = small(alloc)?;
+    let sizes = numbers(alloc, &[2, 2, 3])?;
+    let mut kripke = Kripke::new(alloc, &signature, &sizes)?;
+    assert_eq!(rt; kripke.value(1, 7, &[1]), 0);
+    assert_eq!(rt; kripke.value(2, 1, &[]), 0);
+    kripke.set_value(1, 7, &[1], 2);
+    assert!(rt; !kripke.related(0, 0, 1));
+    Ok(())
+}
+
+#[test]
+fn rows_at_worlds(rt: HostRuntime) -> Result<(), Fail> {
+    let alloc = rt.alloc();
+    let signature = small(alloc)?;
+    let sizes = numbers(alloc, &[2, 2, 3])?;
+    let mut kripke = Kripke::new(alloc, &signature, &sizes)?;
+    assert_eq!(rt; (kripke.size(0), kripke.size(1)), (2, 3));
+    assert!(rt; !kripke.holds(0, 1, &[1, 2]));
+    kripke.set_holds(0, 1, &[1, 2], true);
+    kripke.set_actual(1);
+    assert_eq!(rt; kripke.actual(), 1);
+    Ok(())
+}
+
+#[test]
+fn cells_of_structures(rt: HostRuntime) -> Result<(), Fail> {
+    let alloc = rt.alloc();
+    let signature = small(alloc)?;
+    let tables = classical(alloc, &signature)?;
+    let sizes = numbers(alloc, &[2, 2, 3])?;
+    assert_eq!(rt; cells(&tables, &sizes), 24);
+    let mut structure = Structure::new(alloc, &tables, &sizes)?;
+    assert_eq!(rt; (structure.size(2), structure.actual()), (3, 0));
+    structure.set_actual(1);
+    assert_eq!(rt; structure.actual(), 1);
+    structure.set(3, &[1], 2);
+    assert_eq!(rt; structure.get(3, &[1]), 2);
+    Ok(())
+}
+
+// Why there is no Kripke structure with these sizes over a signature with `$i` alone, or None where there is one.
+fn refusal(alloc: Global, worlds: u32, size: u32) -> Result<Option<ShapeError>, Memory>
+    requires worlds { 0 < worlds }
+    requires size { 0 < size }
+{
+    let mut sorts = List::new(alloc);
+    sorts.push(SortEntry {
+        name: SortName::Individual,
+        regime: Regime::Varying,
+    })?;
+    let signature = Signature {
+        sorts,
+        symbols: List::new(alloc),
+        indexes: List::new(alloc),
+    };
+    let sizes = numbers(alloc, &[worlds, size])?;
+    match Kripke::new(alloc, &signature, &sizes) {
+        Ok(_) => Ok(None),
+        Err(error) => Ok(Some(error)),
+    }
+}
+
+#[test]
+fn limits_of_kripke_structures(rt: HostRuntime) -> Result<(), Fail> {
+    let alloc = rt.alloc();
+    assert_eq!(rt; refusal(alloc, 2_048, 2_048)?, None);
+    assert_eq!(rt; refusal(alloc, 65_535, 64)?, None);
+    assert_eq!(rt;
+        refusal(alloc, 5, 838_861)?,
+        Some(ShapeError::TooBig(4_194_305))
+    );
+    assert_eq!(rt;
+        refusal(alloc, 65_536, 838_861)?,
+        Some(ShapeError::TooManyWorlds(65_536))
+    );
     Ok(())
 }
