@@ -12,8 +12,8 @@ pub type Row = (
     &'static str,
 );
 
-// The status in decimal, what the run wrote to `out`, and what it wrote to `err`.
-fn summary(alloc: Global, code: u8, out: &[u8], err: &[u8]) -> Result<Vec<u8>, Fail> {
+/// The status in decimal, what the run wrote to `out`, and what it wrote to `err`.
+pub fn summary(alloc: Global, code: u8, out: &[u8], err: &[u8]) -> Result<Vec<u8>, Fail> {
     let mut all = Vec::new(alloc);
     if code >= 10 {
         all.push(b'0' + code / 10 % 10)?;

@@ -53,23 +53,29 @@ impl Sink for WornOutput {
     }
 }
 
-#[test]
-fn worn_libraries(rt: HostRuntime) -> Result<(), Fail> {
+// The run over one library that always gives this answer, with nothing to write.
+fn expect_worn_library(
+    rt: &HostRuntime,
+    error: Option<LoadError>,
+    code: u8,
+    line: &str,
+) -> Result<(), Fail> {
     let alloc = rt.alloc();
     let words = embed_stdin(alloc)?;
-    for (error, code, line) in [
-        (None, 3, "no file -\n"),
-        (Some(LoadError::Fault), 4, "read fault\n"),
-        (Some(LoadError::Memory), 20, "no memory\n"),
-    ] {
-        let mut out = CalmSink::new(alloc);
-        let mut err = CalmSink::new(alloc);
-        let mut libraries = [WornLibrary { error }];
-        let status = run_over(alloc, &words, &mut libraries, &mut out, &mut err);
-        assert_eq!(rt; (status.code(), err.bytes()), (code, line.as_bytes()));
-        assert_eq!(rt; out.bytes(), b"".as_slice());
-    }
+    let mut out = CalmSink::new(alloc);
+    let mut err = CalmSink::new(alloc);
+    let mut libraries = [WornLibrary { error }];
+    let status = run_over(alloc, &words, &mut libraries, &mut out, &mut err);
+    assert_eq!(rt; (status.code(), err.bytes()), (code, line.as_bytes()));
+    assert_eq!(rt; out.bytes(), b"".as_slice());
     Ok(())
+}
+
+#[test]
+fn worn_libraries(rt: HostRuntime) -> Result<(), Fail> {
+    expect_worn_library(&rt, None, 3, "no file -\n")?;
+    expect_worn_library(&rt, Some(LoadError::Fault), 4, "read fault\n")?;
+    expect_worn_library(&rt, Some(LoadError::Memory), 20, "no memory\n")
 }
 
 #[test]
