@@ -1,11 +1,22 @@
-use crate::axioms;
+ghost use Rattle.std.specs.Prelude.{◌≡◌, ◌<◌, [], ◌∷◌, length, IfOk};
+ghost use Rattle.nxf_tree.specs.declared.tree.Signature.{Signature};
+ghost use Rattle.nxf_tree.specs.WellFormed.{IsWellFormed, AreOrdered};
+ghost use Rattle.fin_struct.specs.KripkeView.{IsKripkeFor};
+
+use crate::{axioms, first_fault};
+use fin_struct::{Condition, Kripke};
 use nxf_base::{List, Memory};
 use nxf_tree::{IndexEntry, IndexName, Scheme, Signature};
 use std::alloc::Global;
 use std::test::Fail;
 
 // A signature with one index, which has these schemes.
-fn with_schemes(alloc: Global, chosen: &[Scheme]) -> Result<Signature, Memory> {
+fn with_schemes(alloc: Global, chosen: &[Scheme]) -> Result<Signature, Memory>
+    requires { AreOrdered chosen.now }
+    ensures formed { IfOk result IsWellFormed }
+    ensures indexes { IfOk result (λ over. length over.indexes ≡ 1) }
+    ensures sorts { IfOk result (λ over. over.sorts ≡ []) }
+{
     let mut schemes = List::new(alloc);
     for scheme in chosen {
         schemes.push(*scheme)?;
@@ -22,7 +33,66 @@ fn with_schemes(alloc: Global, chosen: &[Scheme]) -> Result<Signature, Memory> {
     })
 }
 
+// Adds a pair to the relation of the first index, if both are worlds.
+fn relate(kripke: &mut Kripke, from: u32, to: u32)
+    requires { 0 < kripke.old.indexes }
+    ensures same { (sig : Signature) → IsKripkeFor sig kripke.old → IsKripkeFor sig kripke.new }
+    ensures indexes { kripke.new.indexes ≡ kripke.old.indexes }
+{
+    if from >= kripke.worlds() || to >= kripke.worlds() {
+        return;
+    }
+    kripke.set_related(0, from, to, true);
+}
+
+// A structure with two worlds, and these pairs in the relation of the first index.
+fn with_pairs(alloc: Global, over: &Signature, pairs: &[(u32, u32)]) -> Result<Kripke, Fail>
+    requires well_formed { IsWellFormed over.now }
+    requires index { 0 < length over.now.indexes }
+    requires sorts { over.now.sorts ≡ [] }
+    ensures { IfOk result (λ kripke. IsKripkeFor over.now kripke) }
+{
+    let mut sizes = List::new(alloc);
+    sizes.push(2)?;
+    let mut kripke = Kripke::new(alloc, over, &sizes)?;
+    for (from, to) in pairs {
+        relate(&mut kripke, *from, *to);
+    }
+    Ok(kripke)
+}
+
+// The first fault of two worlds with these pairs, under these schemes.
+fn fault_of(
+    alloc: Global,
+    chosen: &[Scheme],
+    pairs: &[(u32, u32)],
+) -> Result<Option<Condition>, Fail>
+    requires { AreOrdered chosen.now }
+{
+    let over = with_schemes(alloc, chosen)?;
+    let kripke = with_pairs(alloc, &over, pairs)?;
+    Ok(first_fault(&over, &kripke))
+}
+
+// The same under one scheme.
+fn fault_of_one(
+    alloc: Global,
+    scheme: Scheme,
+    pairs: &[(u32, u32)],
+) -> Result<Option<Condition>, Fail> {
+    fault_of(alloc, &[scheme], pairs)
+}
+
+// The number of axioms of these schemes.
+fn count(alloc: Global, chosen: &[Scheme]) -> Result<usize, Memory>
+    requires { AreOrdered chosen.now }
+{
+    let signature = with_schemes(alloc, chosen)?;
+    Ok(axioms(alloc, &signature)?.len())
+}
+
 #[test]
+#[tactic(auto, unfolding(nxf_tree::specs::SpecificationWords::same_scheme))]
 fn an_axiom_for_each_scheme(rt: HostRuntime) -> Result<(), Fail> {
     let alloc = rt.alloc();
     let all = [
@@ -37,9 +107,45 @@ fn an_axiom_for_each_scheme(rt: HostRuntime) -> Result<(), Fail> {
         Scheme::C,
         Scheme::U,
     ];
-    let signature = with_schemes(alloc, &all)?;
-    assert_eq!(rt; axioms(alloc, &signature)?.len(), 10);
-    let none = with_schemes(alloc, &[])?;
-    assert_eq!(rt; axioms(alloc, &none)?.len(), 0);
+    assert_eq!(rt; count(alloc, &all)?, 10);
+    assert_eq!(rt; count(alloc, &[])?, 0);
+    Ok(())
+}
+
+// Over two worlds, the smallest relation that meets the scheme, and the smallest that doesn't.
+#[test]
+fn smallest_relations(rt: HostRuntime) -> Result<(), Fail> {
+    let alloc = rt.alloc();
+    let none = [].as_slice();
+    let step = [(0, 1)].as_slice();
+    for (scheme, meets, breaks) in [
+        (Scheme::T, [(0, 0), (1, 1)].as_slice(), none),
+        (Scheme::D, [(0, 0), (1, 0)].as_slice(), none),
+        (Scheme::B, none, step),
+        (Scheme::Four, none, [(0, 1), (1, 0)].as_slice()),
+        (Scheme::Five, none, step),
+        (Scheme::CD, none, [(0, 0), (0, 1)].as_slice()),
+        (Scheme::BoxM, none, step),
+        (Scheme::C4, none, step),
+        (Scheme::C, none, step),
+        (Scheme::U, [(0, 0), (0, 1), (1, 0), (1, 1)].as_slice(), none),
+    ] {
+        assert_eq!(rt; fault_of_one(alloc, scheme, meets)?, None);
+        let fault = fault_of_one(alloc, scheme, breaks)?;
+        assert_eq!(rt; fault, Some(Condition::Frame(0, scheme)));
+    }
+    Ok(())
+}
+
+// A relation that is symmetric, and neither reflexive nor transitive.
+#[test]
+#[tactic(auto, unfolding(nxf_tree::specs::SpecificationWords::same_scheme))]
+fn first_of_two_schemes(rt: HostRuntime) -> Result<(), Fail> {
+    let alloc = rt.alloc();
+    let pairs = [(0, 1), (1, 0)].as_slice();
+    let second = fault_of(alloc, &[Scheme::B, Scheme::Four], pairs)?;
+    assert_eq!(rt; second, Some(Condition::Frame(0, Scheme::Four)));
+    let first = fault_of(alloc, &[Scheme::T, Scheme::Four], pairs)?;
+    assert_eq!(rt; first, Some(Condition::Frame(0, Scheme::T)));
     Ok(())
 }
