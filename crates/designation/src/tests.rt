@@ -1,7 +1,10 @@
-ghost use Rattle.std.specs.Prelude.{IfOk};
+ghost use Rattle.std.specs.Prelude.{◌≡◌, ◌<◌, [], ◌∷◌, length, IfOk, IsSome};
 ghost use Rattle.nxf_tree.specs.WellFormed.{IsWellFormed};
+ghost use Rattle.nxf_tree.specs.declared.tree.Signature.{Signature};
+ghost use Rattle.fin_struct.specs.KripkeView.{IsKripkeFor, existence_number};
 
-use crate::axioms;
+use crate::{axioms, first_fault};
+use fin_struct::{Condition, Kripke};
 use nxf_base::{List, Memory, Text};
 use nxf_tree::{Designation, Locality, Regime, Signature, SortEntry, SortName, SymbolEntry};
 use std::alloc::Global;
@@ -14,7 +17,8 @@ fn one_function(
     designation: Designation,
     locality: Locality,
 ) -> Result<Signature, Memory>
-    ensures { IfOk result IsWellFormed }
+    ensures formed { IfOk result IsWellFormed }
+    ensures sorts { IfOk result (λ over. over.sorts ≡ record { name = SortName.Individual; regime = regime } ∷ []) }
 {
     let mut sorts = List::new(alloc);
     sorts.push(SortEntry {
@@ -50,6 +54,62 @@ fn axioms_of_local_functions(rt: HostRuntime) -> Result<(), Fail> {
     ] {
         let signature = one_function(alloc, regime, designation, locality)?;
         assert_eq!(rt; axioms(alloc, &signature)?.len(), count);
+    }
+    Ok(())
+}
+
+// Lets an element exist at a world, if it is one of the first sort, which isn't constant.
+fn put(kripke: &mut Kripke, world: u32, element: u32)
+    requires sort { 0 < length kripke.old.existence }
+    requires varying { IsSome (existence_number kripke.old 0) }
+    ensures same { (sig : Signature) → IsKripkeFor sig kripke.old → IsKripkeFor sig kripke.new }
+    ensures existence { kripke.new.existence ≡ kripke.old.existence }
+{
+    if world >= kripke.worlds() || element >= kripke.size(0) {
+        return;
+    }
+    kripke.set_exists(0, world, element, true);
+}
+
+// The first fault of two worlds and two elements, which exist as said; the values of `f` are all element 0.
+fn fault_of(
+    alloc: Global,
+    designation: Designation,
+    locality: Locality,
+    existing: &[(u32, u32)],
+) -> Result<Option<Condition>, Fail> {
+    let over = one_function(alloc, Regime::Varying, designation, locality)?;
+    let mut sizes = List::new(alloc);
+    sizes.push(2)?;
+    sizes.push(2)?;
+    let mut kripke = Kripke::new(alloc, &over, &sizes)?;
+    for (world, element) in existing {
+        put(&mut kripke, *world, *element);
+    }
+    Ok(first_fault(&over, &kripke))
+}
+
+// Element 0 exists at both worlds, at the first alone where only element 1 exists at the second, or at the first alone
+// where nobody exists at the second.
+#[test]
+fn values_that_exist(rt: HostRuntime) -> Result<(), Fail> {
+    let alloc = rt.alloc();
+    let both = [(0, 0), (1, 0)].as_slice();
+    let apart = [(0, 0), (1, 1)].as_slice();
+    let fault = Some(Condition::Local(0));
+    for (designation, locality, existing, found) in [
+        (Designation::Rigid, Locality::Local, both, None),
+        (Designation::Rigid, Locality::Local, apart, fault),
+        (Designation::Flexible, Locality::Local, apart, fault),
+        (Designation::Rigid, Locality::Global, apart, None),
+        (
+            Designation::Rigid,
+            Locality::Local,
+            [(0, 0)].as_slice(),
+            None,
+        ),
+    ] {
+        assert_eq!(rt; fault_of(alloc, designation, locality, existing)?, found);
     }
     Ok(())
 }
