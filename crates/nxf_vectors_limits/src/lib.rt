@@ -15,5 +15,3 @@ mod nesting;
 mod people;
 #[cfg(test)]
 mod texts;
-#[cfg(test)]
-mod worn;
