@@ -15,3 +15,4 @@ pub mod PlacesLemmas
 pub mod RowListsLemmas
 pub mod StructureLemmas
 pub mod TableSteps
+pub mod WrittenFor

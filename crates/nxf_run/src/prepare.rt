@@ -82,12 +82,10 @@ fn translate(alloc: Global, file: File) -> Result<Vec<u8>, Status>
         Err(status) => return Err(status),
     };
     drop(file);
-    let problem = match embed(alloc, &checked, &parts) {
-        Ok(problem) => problem,
-        Err(Memory) => return Err(Status::Memory),
-    };
-    drop((parts, checked));
-    print(alloc, &problem)
+    match embed(alloc, &checked, &parts) {
+        Ok(problem) => print(alloc, &problem),
+        Err(Memory) => Err(Status::Memory),
+    }
 }
 
 /// What the file is read as, where it is in the profile.
