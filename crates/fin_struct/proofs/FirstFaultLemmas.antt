@@ -10,7 +10,6 @@ use Rattle.nxf_tree.specs.declared.tree.Signature.{Signature}
 use Rattle.nxf_tree.specs.declared.tree.IndexEntry.{IndexEntry}
 use Rattle.nxf_tree.specs.declared.tree.IndexName.{IndexName}
 use Rattle.nxf_tree.specs.declared.tree.SymbolEntry.{SymbolEntry}
-use Rattle.nxf_tree.specs.declared.tree.Scheme.{Scheme}
 use Rattle.nxf_tree.specs.Kripke.{KripkeModel}
 use Rattle.nxf_tree.specs.declared.tree.SortEntry.{SortEntry}
 use Rattle.nxf_tree.specs.declared.tree.SortName.{SortName}
@@ -20,8 +19,7 @@ use Rattle.nxf_tree.specs.Signature.{is_constant, constant_regime, sort_at}
 use Rattle.nxf_tree.specs.WellFormed.{HasDifferentNames}
 use Rattle.nxf_tree.specs.Conditions.{meets_scheme, meets_frames, meets_terms, meets_domain, meets_domains, someone_exists, everyone_exists, is_monotone}
 use Rattle.signature_parts.proofs.Places.{is_constant-place}
-use Rattle.fin_struct.specs.declared.condition.Condition.{Condition}
-use Rattle.fin_struct.specs.declared.condition.Condition.TheVariants.{Frame, Empty, Union, Monotone, Local}
+use Rattle.fin_struct.specs.declared.condition.Condition.TheVariants.{Frame}
 use Rattle.fin_struct.specs.FirstFault.{FailsFirst, IsFirstFailing, index_at, meets_condition, meets_term, meets_term_at, frames_from, frame_conditions, terms_from, term_conditions, regime_at, goes_along, monotone_from, sort_conditions, domains_from, domain_conditions}
 
 -- the first that fails

@@ -15,4 +15,3 @@ pub mod PlacesLemmas
 pub mod RowListsLemmas
 pub mod StructureLemmas
 pub mod TableSteps
-pub mod WrittenFor

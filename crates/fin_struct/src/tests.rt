@@ -1,13 +1,16 @@
-ghost use Rattle.std.specs.Prelude.{◌≡◌, ◌<◌, ◌∷◌, [], None, Some, codes, IfOk};
+ghost use Rattle.std.specs.Prelude.{◌≡◌, ◌<◌, ◌∷◌, [], length, replicate, None, Some, IsSome, codes, IfOk};
+ghost use Rattle.fin_struct.specs.Cells.{bound_of};
+ghost use Rattle.fin_struct.specs.KripkeView.{symbol_table, symbol_row};
+ghost use Rattle.fin_struct.specs.Places.{InRange};
 
 use crate::limits::check_limits;
-use crate::{Kripke, ShapeError, Structure, cells, classical};
+use crate::{Grid, GridShape, Kripke, ShapeError, Structure, cells, classical};
 use nxf_base::{List, Memory, Text};
 use nxf_tree::{
     ClassicalSignature, Designation, IndexEntry, IndexName, Locality, Regime, Signature, SortEntry,
     SortName, SymbolEntry, TableEntry,
 };
-use std::alloc::Global;
+use std::alloc::{AllocError, Global};
 use std::test::Fail;
 
 fn numbers(alloc: Global, items: &[u32]) -> Result<List<u32>, Memory>
@@ -54,6 +57,34 @@ fn cells_are_counted(rt: HostRuntime) -> Result<(), Fail> {
     let many = with_table(alloc, &[1, 1, 1])?;
     let sizes = numbers(alloc, &[1, 4_294_967_295])?;
     assert_eq!(rt; cells(&many, &sizes), u64::MAX);
+    Ok(())
+}
+
+fn repeated(alloc: Global, number: u32, count: usize) -> Result<Vec<u32>, AllocError>
+    ensures { IfOk result (λ made. made.items ≡ replicate count number) }
+{
+    vec![in alloc; number; count]
+}
+
+// Writes 1 in the one row of a table with that many arguments, each of a sort with one element, and reads it back.
+fn read_back(alloc: Global, count: usize) -> Result<u32, Memory> {
+    let mut shapes = Vec::new(alloc);
+    shapes.push(GridShape {
+        sizes: repeated(alloc, 1, count)?,
+        values: None,
+    })?;
+    let mut grid = Grid::new(alloc, shapes)?;
+    let row = repeated(alloc, 0, count)?;
+    grid.set(0, None, &row, 1);
+    Ok(grid.get(0, None, &row))
+}
+
+#[test]
+fn rows_of_many_arguments(rt: HostRuntime) -> Result<(), Fail> {
+    let alloc = rt.alloc();
+    for count in [0, 1, 2, 1_001] {
+        assert_eq!(rt; read_back(alloc, count)?, 1);
+    }
     Ok(())
 }
 
@@ -149,6 +180,27 @@ fn elements_at_worlds(rt: HostRuntime) -> Result<(), Fail> {
     Ok(())
 }
 
+// Writes a value of a function, and reads it back.
+fn value_after(kripke: &mut Kripke, symbol: u32, world: u32, args: &[u32], element: u32) -> u32
+    requires symbol_in { symbol < length kripke.old.world_first }
+    requires function { IsSome (symbol_table kripke.old symbol).values }
+    requires row_in { InRange (symbol_table kripke.old symbol).sizes (symbol_row kripke.old symbol world args.now) }
+    requires below { element < bound_of (symbol_table kripke.old symbol).values }
+{
+    kripke.set_value(symbol, world, args, element);
+    kripke.value(symbol, world, args)
+}
+
+// Writes whether a predicate holds, and reads it back.
+fn holds_after(kripke: &mut Kripke, symbol: u32, world: u32, args: &[u32], yes: bool) -> bool
+    requires symbol_in { symbol < length kripke.old.world_first }
+    requires predicate { (symbol_table kripke.old symbol).values ≡ None }
+    requires row_in { InRange (symbol_table kripke.old symbol).sizes (world ∷ args.now) }
+{
+    kripke.set_holds(symbol, world, args, yes);
+    kripke.holds(symbol, world, args)
+}
+
 #[test]
 fn values_at_worlds(rt: HostRuntime) -> Result<(), Fail> {
     let alloc = rt.alloc();
@@ -157,8 +209,7 @@ fn values_at_worlds(rt: HostRuntime) -> Result<(), Fail> {
     let mut kripke = Kripke::new(alloc, &signature, &sizes)?;
     assert_eq!(rt; kripke.value(1, 7, &[1]), 0);
     assert_eq!(rt; kripke.value(2, 1, &[]), 0);
-    kripke.set_value(1, 7, &[1], 2);
-    assert!(rt; !kripke.related(0, 0, 1));
+    assert_eq!(rt; value_after(&mut kripke, 1, 7, &[1], 2), 2);
     Ok(())
 }
 
@@ -170,9 +221,9 @@ fn rows_at_worlds(rt: HostRuntime) -> Result<(), Fail> {
     let mut kripke = Kripke::new(alloc, &signature, &sizes)?;
     assert_eq!(rt; (kripke.size(0), kripke.size(1)), (2, 3));
     assert!(rt; !kripke.holds(0, 1, &[1, 2]));
-    kripke.set_holds(0, 1, &[1, 2], true);
     kripke.set_actual(1);
     assert_eq!(rt; kripke.actual(), 1);
+    assert!(rt; holds_after(&mut kripke, 0, 1, &[1, 2], true));
     Ok(())
 }
 
