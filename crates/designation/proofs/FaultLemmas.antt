@@ -1,6 +1,6 @@
 -- The condition of a function by name and by number.
 use Rattle.std.proofs.Common.{◌≡◌, ℕ, zero, suc, ◌+◌, ◌<◌, ◌≤◌, Bool, true, false, List, [], ◌∷◌, length, get_or, drop, refl, sym, ap, subst, ◌∙◌, add-one, arith, Option, None, Some}
-use Rattle.std.specs.Prelude.{◌&&◌, map, slice_get, if◌then◌else◌, IsTrue}
+use Rattle.std.specs.Prelude.{◌&&◌, map, slice_get, if◌then◌else◌}
 use Rattle.std.specs.Option.{IsSome, is_some, option_map, unwrap_or}
 use Rattle.std.specs.List.{list_all, All}
 use Rattle.std.proofs.lemmas.Bool.{and_parts}
@@ -11,24 +11,24 @@ use Rattle.nxf_tree.specs.declared.tree.SortName.{SortName}
 use Rattle.nxf_tree.specs.declared.tree.SymbolEntry.{SymbolEntry}
 use Rattle.nxf_tree.specs.Counting.{all_below, implies}
 use Rattle.nxf_tree.specs.Rows.{size_at}
-use Rattle.nxf_tree.specs.Signature.{sort_at, takes_world, is_constant}
+use Rattle.nxf_tree.specs.Signature.{sort_at, is_constant}
 use Rattle.nxf_tree.specs.Sorting.{in_range, gives_in_range}
 use Rattle.nxf_tree.specs.Conditions.{each_row, all_present, values_exist, argument_sorts, meets_result, varying_result}
 use Rattle.nxf_tree.specs.Kripke.{KripkeModel}
-use Rattle.nxf_tree.specs.Structures.{kripke_model, symbol_shape}
+use Rattle.nxf_tree.specs.Structures.{kripke_model}
 use Rattle.nxf_tree.specs.WellFormed.{IsWellFormed, has_sorts_in_range}
 use Rattle.fin_struct.specs.declared.condition.Condition.TheVariants.{Local}
 use Rattle.fin_struct.specs.FirstFault.{meets_condition, meets_term, meets_term_at, terms_from}
 use Rattle.fin_struct.proofs.FirstFaultLemmas.{first_failing, first-holds, first-fails, drop-read}
 use Rattle.signature_parts.proofs.Places.{in_range-below, sort_at-place}
 use Rattle.fin_struct.specs.Places.{InRange}
-use Rattle.fin_struct.specs.Cells.{CellTable, cell, bound_of, table_at}
-use Rattle.fin_struct.specs.RowLists.{IsFilled, shape_of}
+use Rattle.fin_struct.specs.Cells.{CellTable, cell, bound_of}
+use Rattle.fin_struct.specs.RowLists.{IsFilled}
 use Rattle.fin_struct.specs.KripkeView.{KripkeView, IsKripke, IsKripkeFor, exists_in, value_in, symbol_table, symbol_row, symbol_number, takes_world_in, kripke_structure}
 use Rattle.fin_struct.specs.KripkeLaws.{HasPlaces, ReadsByName}
 use Rattle.fin_struct.proofs.Counted.{all_same, all_pass}
 use Rattle.fin_struct.proofs.KripkeLemmas.{symbol_in}
-use Rattle.fin_struct.proofs.KripkeNames.{places-law, names-law}
+use Rattle.fin_struct.proofs.KripkeNames.{places-law}
 use Rattle.fin_struct.proofs.PlacesLemmas.{place_below}
 use Rattle.designation.specs.Listed.{IsListed}
 use Rattle.designation.proofs.Adding.{listed-at}

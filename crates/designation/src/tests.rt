@@ -1,4 +1,4 @@
-ghost use Rattle.std.specs.Prelude.{◌≡◌, ◌<◌, [], ◌∷◌, length, IfOk, IsSome};
+ghost use Rattle.std.specs.Prelude.{◌≡◌, ◌<◌, [], ◌∷◌, length, Some, IfOk, IsSome};
 ghost use Rattle.nxf_tree.specs.WellFormed.{IsWellFormed};
 ghost use Rattle.nxf_tree.specs.declared.tree.Signature.{Signature};
 ghost use Rattle.fin_struct.specs.KripkeView.{IsKripkeFor, existence_number};
@@ -110,6 +110,62 @@ fn values_that_exist(rt: HostRuntime) -> Result<(), Fail> {
         ),
     ] {
         assert_eq!(rt; fault_of(alloc, designation, locality, existing)?, found);
+    }
+    Ok(())
+}
+
+fn constant(alloc: Global, name: &[u8], sort: u32) -> Result<SymbolEntry, Memory>
+    ensures { IfOk result (λ made. made ≡ record { name = name.now; args = []; gives = Some sort; designation = Designation.Rigid; locality = Locality.Local }) }
+{
+    Ok(SymbolEntry {
+        name: Text::from_bytes(alloc, name)?,
+        args: List::new(alloc),
+        gives: Some(sort),
+        designation: Designation::Rigid,
+        locality: Locality::Local,
+    })
+}
+
+// The first fault of local constants `c` of `$i` and `d` of `s`, in one world with one element in each sort, which exists
+// as said.
+fn fault_of_two(alloc: Global, first: bool, second: bool) -> Result<Option<Condition>, Fail> {
+    let mut sorts = List::new(alloc);
+    sorts.push(SortEntry {
+        name: SortName::Individual,
+        regime: Regime::Varying,
+    })?;
+    sorts.push(SortEntry {
+        name: SortName::User(Text::from_bytes(alloc, b"s")?),
+        regime: Regime::Varying,
+    })?;
+    let mut symbols = List::new(alloc);
+    symbols.push(constant(alloc, b"c", 0)?)?;
+    symbols.push(constant(alloc, b"d", 1)?)?;
+    let over = Signature {
+        sorts,
+        symbols,
+        indexes: List::new(alloc),
+    };
+    let mut sizes = List::new(alloc);
+    sizes.push(1)?;
+    sizes.push(1)?;
+    sizes.push(1)?;
+    let mut kripke = Kripke::new(alloc, &over, &sizes)?;
+    kripke.set_exists(0, 0, 0, first);
+    kripke.set_exists(1, 0, 0, second);
+    Ok(first_fault(&over, &kripke))
+}
+
+#[test]
+fn first_of_two_symbols(rt: HostRuntime) -> Result<(), Fail> {
+    let alloc = rt.alloc();
+    for (first, second, fault) in [
+        (true, true, None),
+        (false, true, Some(Condition::Local(0))),
+        (true, false, Some(Condition::Local(1))),
+        (false, false, Some(Condition::Local(0))),
+    ] {
+        assert_eq!(rt; fault_of_two(alloc, first, second)?, fault);
     }
     Ok(())
 }

@@ -1,5 +1,5 @@
 -- The conditions of a sort by its number, and what its regime asks of each step along a relation.
-use Rattle.std.specs.Prelude.{◌≡◌, ℕ, Bool, true}
+use Rattle.std.specs.Prelude.{ℕ, Bool, true}
 use Rattle.nxf_tree.specs.declared.tree.Regime.{Regime}
 use Rattle.nxf_tree.specs.declared.tree.Regime.TheVariants.{Constant, Cumulative, Decreasing, Varying}
 use Rattle.nxf_tree.specs.Counting.{all_below, implies}

@@ -1,5 +1,5 @@
 -- The first fault of the frames, index by index.
-use Rattle.std.proofs.Common.{◌≡◌, ℕ, ◌+◌, ◌<◌, Bool, length, get_or, drop, refl, sym, ap, ◌∙◌, add-one, arith, List, Option, None, Some}
+use Rattle.std.proofs.Common.{◌≡◌, ℕ, ◌+◌, ◌<◌, Bool, length, get_or, drop, refl, sym, ap, ◌∙◌, add-one, arith, List, None, Some}
 use Rattle.std.specs.Prelude.{map, slice_get}
 use Rattle.std.specs.Option.{option_map}
 use Rattle.std.proofs.lemmas.Option.{slice_get_read}
@@ -13,7 +13,7 @@ use Rattle.nxf_tree.specs.Structures.{kripke_model}
 use Rattle.nxf_tree.specs.WellFormed.{HasDifferentNames}
 use Rattle.fin_struct.specs.declared.condition.Condition.{Condition}
 use Rattle.fin_struct.specs.declared.condition.Condition.TheVariants.{Frame}
-use Rattle.fin_struct.specs.FirstFault.{index_at, meets_condition, frames_from}
+use Rattle.fin_struct.specs.FirstFault.{meets_condition, frames_from}
 use Rattle.fin_struct.specs.KripkeView.{KripkeView, IsKripke, IsKripkeFor, related_in, kripke_structure}
 use Rattle.fin_struct.proofs.FirstFaultLemmas.{first_failing, front_holds, front_fails, first-map, drop-read, index_at-place}
 use Rattle.fin_struct.proofs.KripkeNames.{names-law}

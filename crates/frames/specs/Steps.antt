@@ -1,5 +1,5 @@
 -- The conditions of the schemes world by world and step by step, as loops test them.
-use Rattle.std.specs.Prelude.{◌≡◌, ℕ, Bool, true, ◌&&◌, nat_eq}
+use Rattle.std.specs.Prelude.{ℕ, Bool, true, ◌&&◌, nat_eq}
 use Rattle.nxf_tree.specs.declared.tree.Scheme.{Scheme}
 use Rattle.nxf_tree.specs.declared.tree.Scheme.TheVariants.{T, D, B, Four, Five, CD, BoxM, C4, C, U}
 use Rattle.nxf_tree.specs.Counting.{all_below, any_below, implies}

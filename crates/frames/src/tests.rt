@@ -5,10 +5,20 @@ ghost use Rattle.fin_struct.specs.KripkeView.{IsKripkeFor};
 
 use crate::{axioms, first_fault};
 use fin_struct::{Condition, Kripke};
-use nxf_base::{List, Memory};
+use nxf_base::{List, Memory, Text};
 use nxf_tree::{IndexEntry, IndexName, Scheme, Signature};
 use std::alloc::Global;
 use std::test::Fail;
+
+fn list_of(alloc: Global, chosen: &[Scheme]) -> Result<List<Scheme>, Memory>
+    ensures { IfOk result (λ list. list ≡ chosen.now) }
+{
+    let mut schemes = List::new(alloc);
+    for scheme in chosen {
+        schemes.push(*scheme)?;
+    }
+    Ok(schemes)
+}
 
 // A signature with one index, which has these schemes.
 fn with_schemes(alloc: Global, chosen: &[Scheme]) -> Result<Signature, Memory>
@@ -17,14 +27,10 @@ fn with_schemes(alloc: Global, chosen: &[Scheme]) -> Result<Signature, Memory>
     ensures indexes { IfOk result (λ over. length over.indexes ≡ 1) }
     ensures sorts { IfOk result (λ over. over.sorts ≡ []) }
 {
-    let mut schemes = List::new(alloc);
-    for scheme in chosen {
-        schemes.push(*scheme)?;
-    }
     let mut indexes = List::new(alloc);
     indexes.push(IndexEntry {
         name: IndexName::Plain,
-        schemes,
+        schemes: list_of(alloc, chosen)?,
     })?;
     Ok(Signature {
         sorts: List::new(alloc),
@@ -33,16 +39,16 @@ fn with_schemes(alloc: Global, chosen: &[Scheme]) -> Result<Signature, Memory>
     })
 }
 
-// Adds a pair to the relation of the first index, if both are worlds.
-fn relate(kripke: &mut Kripke, from: u32, to: u32)
-    requires { 0 < kripke.old.indexes }
+// Adds a pair to the relation of an index, if both are worlds.
+fn relate(kripke: &mut Kripke, index: u32, from: u32, to: u32)
+    requires { index < kripke.old.indexes }
     ensures same { (sig : Signature) → IsKripkeFor sig kripke.old → IsKripkeFor sig kripke.new }
     ensures indexes { kripke.new.indexes ≡ kripke.old.indexes }
 {
     if from >= kripke.worlds() || to >= kripke.worlds() {
         return;
     }
-    kripke.set_related(0, from, to, true);
+    kripke.set_related(index, from, to, true);
 }
 
 // A structure with two worlds, and these pairs in the relation of the first index.
@@ -56,7 +62,7 @@ fn with_pairs(alloc: Global, over: &Signature, pairs: &[(u32, u32)]) -> Result<K
     sizes.push(2)?;
     let mut kripke = Kripke::new(alloc, over, &sizes)?;
     for (from, to) in pairs {
-        relate(&mut kripke, *from, *to);
+        relate(&mut kripke, 0, *from, *to);
     }
     Ok(kripke)
 }
@@ -147,5 +153,47 @@ fn first_of_two_schemes(rt: HostRuntime) -> Result<(), Fail> {
     assert_eq!(rt; second, Some(Condition::Frame(0, Scheme::Four)));
     let first = fault_of(alloc, &[Scheme::T, Scheme::Four], pairs)?;
     assert_eq!(rt; first, Some(Condition::Frame(0, Scheme::T)));
+    Ok(())
+}
+
+// The first fault where the relation of `[.]` is to be reflexive, and that of `[#a]` serial. Both have one world, which is
+// reached for an index as said.
+#[tactic(auto, unfolding(nxf_tree::specs::SpecificationWords::same_scheme))]
+fn fault_of_two(alloc: Global, plain: bool, named: bool) -> Result<Option<Condition>, Fail> {
+    let mut indexes = List::new(alloc);
+    indexes.push(IndexEntry {
+        name: IndexName::Plain,
+        schemes: list_of(alloc, &[Scheme::T])?,
+    })?;
+    indexes.push(IndexEntry {
+        name: IndexName::Named(Text::from_bytes(alloc, b"a")?),
+        schemes: list_of(alloc, &[Scheme::D])?,
+    })?;
+    let over = Signature {
+        sorts: List::new(alloc),
+        symbols: List::new(alloc),
+        indexes,
+    };
+    let mut sizes = List::new(alloc);
+    sizes.push(1)?;
+    let mut kripke = Kripke::new(alloc, &over, &sizes)?;
+    kripke.set_related(0, 0, 0, plain);
+    kripke.set_related(1, 0, 0, named);
+    Ok(first_fault(&over, &kripke))
+}
+
+#[test]
+fn first_of_two_indexes(rt: HostRuntime) -> Result<(), Fail> {
+    let alloc = rt.alloc();
+    let reflexive = Some(Condition::Frame(0, Scheme::T));
+    let serial = Some(Condition::Frame(1, Scheme::D));
+    for (plain, named, fault) in [
+        (true, true, None),
+        (false, true, reflexive),
+        (true, false, serial),
+        (false, false, reflexive),
+    ] {
+        assert_eq!(rt; fault_of_two(alloc, plain, named)?, fault);
+    }
     Ok(())
 }

@@ -1,4 +1,4 @@
-use Rattle.std.proofs.Common.{◌≡◌, ℕ, ◌<◌, true, List, length, sym, ap, subst, ◌∙◌}
+use Rattle.std.proofs.Common.{◌≡◌, ℕ, true, List, sym, ap, subst, ◌∙◌}
 use Rattle.nxf_tree.specs.Sorting.{in_range}
 use Rattle.nxf_tree.specs.Structures.{kripke_model}
 use Rattle.signature_parts.proofs.Places.{in_range-below}
