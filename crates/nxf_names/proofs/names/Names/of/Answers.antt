@@ -10,5 +10,5 @@ invariant_of-result c = record {
   sorts = ap sort_names c.in_ok-signature.ensures.sorts ∙ sorts_named _ (λ s. refl) (sort_list c.in_ok-tables.tables.individual c.in_ok-tables.tables.declarations.sorts.keys);
   symbols = ap symbol_names c.in_ok-signature.ensures.symbols ∙ symbols_named (sort_list c.in_ok-tables.tables.individual c.in_ok-tables.tables.declarations.sorts.keys) (asked_by c.args.spec.now) c.in_ok-tables.tables.occurring.symbols.entries;
   indexes = ap index_names c.in_ok-signature.ensures.indexes ∙ indexes_named _ (λ i. refl) (index_list c.in_ok-tables.tables.occurring.plain c.in_ok-tables.tables.occurring.indexes.keys);
-  small = c.if-not-is_small.ensures refl;
+  small = c.if-not-is_small.ensures.0 refl;
 }
