@@ -12,21 +12,12 @@ ghost use Rattle.nxf_sorts.specs.Numbering.{IsFault, IsGoodSignature, IsScope, F
 use crate::binders::Binders;
 use crate::fault::{Fault, fault_of};
 use crate::node::Node;
-use crate::number::{number_sides, number_terms, put, room, used_predicate};
+use crate::number::{boxed, number_sides, number_terms, put, room, used_predicate};
 use nxf_base::{List, Memory, SortKind, Text};
 use nxf_names::Names;
 use nxf_tree::{Formula, IndexName, Mode, Quantifier, SortName, Term};
 use sqlite_items::Boxed;
 use std::alloc::Global;
-
-fn boxed_node(alloc: Global, node: Node) -> Result<Boxed<Node>, Fault>
-    ensures { MatchResult result (λ held. held ≡ node) (λ e. e ≡ Fault.Memory) }
-{
-    match Boxed::new(alloc, node) {
-        Ok(held) => Ok(held),
-        Err(_) => Err(Fault::Memory),
-    }
-}
 
 /// The fault of a sort that the file has not.
 pub fn unknown_sort(alloc: Global, sort: &SortName) -> Fault
@@ -165,7 +156,7 @@ fn number_boxed(
     ensures kept { OnOk result (binders.new ≡ binders.old) }
 {
     match number_formula(alloc, names, binders, formula) {
-        Ok(node) => boxed_node(alloc, node),
+        Ok(node) => boxed(alloc, node),
         Err(error) => Err(error),
     }
 }

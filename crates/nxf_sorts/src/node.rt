@@ -13,14 +13,14 @@ pub enum NTerm {
 }
 
 /// A formula with numbers for names: symbols, sorts and indexes have their numbers in the signature. A `Quant` keeps its
-/// sort's number and its variable's text.
+/// sort's number and its variable's text. The sides of an equation stand apart, so that atoms take less room.
 #[derive(Debug, Drop)]
 pub enum Node {
     True,
     False,
     Atom(u32, List<NTerm>),
-    Same(NTerm, NTerm),
-    Differ(NTerm, NTerm),
+    Same(Boxed<NTerm>, Boxed<NTerm>),
+    Differ(Boxed<NTerm>, Boxed<NTerm>),
     Not(Boxed<Node>),
     And(List<Node>),
     Or(List<Node>),

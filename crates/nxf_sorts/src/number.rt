@@ -15,6 +15,7 @@ use crate::node::NTerm;
 use nxf_base::{List, Memory, SortKind, Text};
 use nxf_names::Names;
 use nxf_tree::Term;
+use sqlite_items::Boxed;
 use std::alloc::Global;
 
 /// Appends an item.
@@ -24,6 +25,16 @@ pub fn put<T: Drop>(list: &mut List<T>, item: T) -> Result<(), Memory>
     match list.push(item) {
         Ok(()) => Ok(()),
         Err(_) => Err(Memory),
+    }
+}
+
+/// A value on the heap.
+pub fn boxed<T: Drop>(alloc: Global, value: T) -> Result<Boxed<T>, Fault>
+    ensures { MatchResult result (λ held. held ≡ value) (λ fault. fault ≡ Fault.Memory) }
+{
+    match Boxed::new(alloc, value) {
+        Ok(held) => Ok(held),
+        Err(_) => Err(Fault::Memory),
     }
 }
 
@@ -206,6 +217,18 @@ pub fn number_terms(
     Ok(args)
 }
 
+/// Two terms on the heap.
+fn boxed_sides(
+    alloc: Global,
+    left: NTerm,
+    right: NTerm,
+) -> Result<(Boxed<NTerm>, Boxed<NTerm>), Fault>
+    ensures { MatchResult result (λ p. (p.0 ≡ left) × (p.1 ≡ right)) (λ e. e ≡ Fault.Memory) }
+{
+    let left = boxed(alloc, left)?;
+    Ok((left, boxed(alloc, right)?))
+}
+
 /// Two terms of one sort; or the first fault of the left, of the right, or of both together.
 pub fn number_sides(
     alloc: Global,
@@ -213,7 +236,7 @@ pub fn number_sides(
     binders: &Binders,
     left: &Term,
     right: &Term,
-) -> Result<(NTerm, NTerm), Fault>
+) -> Result<(Boxed<NTerm>, Boxed<NTerm>), Fault>
     requires good { IsGoodSignature names.now.signature }
     requires scope { IsScope names.now.signature binders.now }
     ensures { MatchResult result (λ p. NumbersSides names.now.signature names.now.declared binders.now left.now right.now p.0 p.1)
@@ -225,7 +248,7 @@ pub fn number_sides(
             Err(error) => Err(error),
             Ok((b, t)) => {
                 if s == t {
-                    Ok((a, b))
+                    boxed_sides(alloc, a, b)
                 } else {
                     Err(fault_of(alloc, SortKind::Mismatch, b"="))
                 }

@@ -23,6 +23,7 @@ use signature_parts::{
     existence_name, is_constant_regime, relation_name, two_terms, user_name, user_sort,
     user_variable, world_sort, world_variable,
 };
+use sqlite_items::Boxed;
 use std::alloc::Global;
 
 /// The translation of a formula at a world. `binders` are the variables of the enclosing quantifiers from the outside in,
@@ -128,15 +129,15 @@ fn same(
     signature: &Signature,
     binders: &[Text],
     place: Place,
-    left: &NTerm,
-    right: &NTerm,
+    left: &Boxed<NTerm>,
+    right: &Boxed<NTerm>,
 ) -> Result<Formula, Memory>
     requires different { HasDifferentNames signature.now }
     requires named { HasForm signature.now binders.now (spec.Same left.now right.now) }
     ensures { IfOk result (λ f. (d : ℕ) → IsForm signature.now binders.now (term_of place) d (spec.Same left.now right.now) f) }
 {
-    let left = translate_term(alloc, signature, binders, place, left)?;
-    let right = translate_term(alloc, signature, binders, place, right)?;
+    let left = translate_term(alloc, signature, binders, place, left.get())?;
+    let right = translate_term(alloc, signature, binders, place, right.get())?;
     Ok(Formula::Same(left, right))
 }
 
@@ -145,15 +146,15 @@ fn differ(
     signature: &Signature,
     binders: &[Text],
     place: Place,
-    left: &NTerm,
-    right: &NTerm,
+    left: &Boxed<NTerm>,
+    right: &Boxed<NTerm>,
 ) -> Result<Formula, Memory>
     requires different { HasDifferentNames signature.now }
     requires named { HasForm signature.now binders.now (spec.Differ left.now right.now) }
     ensures { IfOk result (λ f. (d : ℕ) → IsForm signature.now binders.now (term_of place) d (spec.Differ left.now right.now) f) }
 {
-    let left = translate_term(alloc, signature, binders, place, left)?;
-    let right = translate_term(alloc, signature, binders, place, right)?;
+    let left = translate_term(alloc, signature, binders, place, left.get())?;
+    let right = translate_term(alloc, signature, binders, place, right.get())?;
     Ok(Formula::Differ(left, right))
 }
 
