@@ -1,8 +1,11 @@
-//! Worked cases that cross crates: problems at the limits, hostile files, and devices that fail.
+//! Worked cases that cross crates: problems and structures at the limits, hostile files, and
+//! devices that fail.
 #![tactic(auto)]
 
 #[cfg(test)]
 mod arguments;
+#[cfg(test)]
+mod conditions;
 #[cfg(test)]
 mod devices;
 #[cfg(test)]
