@@ -1,7 +1,6 @@
 // The conditions on structures with a thousand worlds.
 ghost use Rattle.std.specs.Prelude.{◌≡◌, ◌<◌, [], ◌∷◌, length, IfOk, IsSome, Some, codes};
-ghost use Rattle.nxf_tree.specs.Signature.{constant_regime};
-ghost use Rattle.nxf_tree.specs.WellFormed.{IsWellFormed, AreOrdered};
+ghost use Rattle.nxf_tree.specs.WellFormed.{AreOrdered};
 ghost use Rattle.nxf_tree.specs.declared.tree.Signature.{Signature};
 ghost use Rattle.fin_struct.specs.KripkeView.{IsKripkeFor, existence_number};
 
@@ -84,7 +83,7 @@ fn frame_fault(alloc: Global, chosen: &[Scheme], all: bool) -> Result<Option<Con
     Ok(frames::first_fault(&over, &kripke))
 }
 
-// The order of the worlds is reflexive and transitive, and not symmetric.
+// The order of the worlds is reflexive and transitive, and not Euclidean.
 #[test]
 #[tactic(auto, unfolding(nxf_tree::specs::SpecificationWords::same_scheme))]
 fn thousand_worlds_in_order(rt: HostRuntime) -> Result<(), Fail> {
