@@ -11,7 +11,7 @@ ghost use Rattle.nxf_formulas.specs.Parse as spec;
 use crate::operators::{mode_of, operator};
 use nxf_base::{List, Text};
 use nxf_signs::{Cursor, GrammarError, Sign, push};
-use nxf_tree::{Formula, IndexName, Mode, Op, Quantifier, SortName, Term};
+use nxf_tree::{Formula, IndexName, Mode, Op, Quantifier, SortName, Term, equation, inequation};
 use sqlite_items::Boxed;
 use std::alloc::Global;
 
@@ -255,11 +255,13 @@ fn comparison(
     match cursor.peek() {
         Sign::Equal => {
             cursor.step();
-            Ok(Formula::Same(first, term(alloc, cursor, left, most)?))
+            let second = term(alloc, cursor, left, most)?;
+            Ok(equation(alloc, first, second)?)
         }
         Sign::Differ => {
             cursor.step();
-            Ok(Formula::Differ(first, term(alloc, cursor, left, most)?))
+            let second = term(alloc, cursor, left, most)?;
+            Ok(inequation(alloc, first, second)?)
         }
         _ => Err(GrammarError::Syntax(0)),
     }

@@ -13,6 +13,7 @@ use crate::symbol_type::{SymbolType, note_text, push_symbol, type_in_table};
 use indexmap::{IndexMap, IndexSet};
 use nxf_base::{List, Memory, Text};
 use nxf_tree::{Body, Formula, IndexName, Override, SortName, SpecKey, Statement, Term, Typing};
+use sqlite_items::Boxed;
 use std::alloc::Global;
 
 /// The symbols with their types, a declared one with its declared type; whether `$i` is the sort of a variable; whether
@@ -202,13 +203,13 @@ impl Occurring {
         &mut self,
         alloc: Global,
         declarations: &Declarations,
-        left: &Term,
-        right: &Term,
+        left: &Boxed<Term>,
+        right: &Boxed<Term>,
     ) -> Result<(), Memory>
         ensures { OnOk result (seen_in self.new ≡ and_occurrences (uses_in declarations.now.symbols.entries) (seen_in self.old) (occurrences (Formula.Same left.now right.now))) }
     {
-        match self.note_term(alloc, declarations, left) {
-            Ok(()) => self.note_term(alloc, declarations, right),
+        match self.note_term(alloc, declarations, left.get()) {
+            Ok(()) => self.note_term(alloc, declarations, right.get()),
             Err(Memory) => Err(Memory),
         }
     }

@@ -234,17 +234,17 @@ pub fn number_sides(
     alloc: Global,
     names: &Names,
     binders: &Binders,
-    left: &Term,
-    right: &Term,
+    left: &Boxed<Term>,
+    right: &Boxed<Term>,
 ) -> Result<(Boxed<NTerm>, Boxed<NTerm>), Fault>
     requires good { IsGoodSignature names.now.signature }
     requires scope { IsScope names.now.signature binders.now }
     ensures { MatchResult result (λ p. NumbersSides names.now.signature names.now.declared binders.now left.now right.now p.0 p.1)
         (λ e. IsFault (equation_fault (modal_language names.now.signature) names.now.declared (bound_in names.now.signature binders.now) left.now right.now) e) }
 {
-    match number_term(alloc, names, binders, left) {
+    match number_term(alloc, names, binders, left.get()) {
         Err(error) => Err(error),
-        Ok((a, s)) => match number_term(alloc, names, binders, right) {
+        Ok((a, s)) => match number_term(alloc, names, binders, right.get()) {
             Err(error) => Err(error),
             Ok((b, t)) => {
                 if s == t {

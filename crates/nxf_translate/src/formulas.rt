@@ -16,8 +16,8 @@ use crate::terms::{front, translate_term, translate_terms};
 use nxf_base::{List, Memory, Text};
 use nxf_sorts::{NTerm, Node};
 use nxf_tree::{
-    Formula, IndexName, Mode, Op, Quantifier, Scope, Signature, SortEntry, Term, both, negated,
-    pair, quantified,
+    Formula, IndexName, Mode, Op, Quantifier, Scope, Signature, SortEntry, Term, both, equation,
+    inequation, negated, pair, quantified,
 };
 use signature_parts::{
     existence_name, is_constant_regime, relation_name, two_terms, user_name, user_sort,
@@ -138,7 +138,7 @@ fn same(
 {
     let left = translate_term(alloc, signature, binders, place, left.get())?;
     let right = translate_term(alloc, signature, binders, place, right.get())?;
-    Ok(Formula::Same(left, right))
+    equation(alloc, left, right)
 }
 
 fn differ(
@@ -155,7 +155,7 @@ fn differ(
 {
     let left = translate_term(alloc, signature, binders, place, left.get())?;
     let right = translate_term(alloc, signature, binders, place, right.get())?;
-    Ok(Formula::Differ(left, right))
+    inequation(alloc, left, right)
 }
 
 #[cycle(translate)]

@@ -1,11 +1,28 @@
-//! Formulas that hold formulas, made of their parts. A part comes by value, and goes where there is no memory.
+//! Formulas made of their parts. A part comes by value, and goes where there is no memory.
 ghost use Rattle.std.specs.Prelude.{◌≡◌, IfOk};
 ghost use Rattle.nxf_tree.specs.Shapes.{Not1, And2, Pair2, Quant1, Modal1};
+ghost use Rattle.nxf_tree.specs.declared.tree.Formula.{Same, Differ};
 
 use crate::copy::boxed;
-use crate::tree::{Formula, IndexName, Mode, Op, Quantifier, SortName};
+use crate::tree::{Formula, IndexName, Mode, Op, Quantifier, SortName, Term};
 use nxf_base::{List, Memory, Text};
 use std::alloc::Global;
+
+/// Two terms with `=` between them.
+pub fn equation(alloc: Global, left: Term, right: Term) -> Result<Formula, Memory>
+    ensures { IfOk result (λ f. f ≡ Same left right) }
+{
+    let left = boxed(alloc, left)?;
+    Ok(Formula::Same(left, boxed(alloc, right)?))
+}
+
+/// Two terms with `!=` between them.
+pub fn inequation(alloc: Global, left: Term, right: Term) -> Result<Formula, Memory>
+    ensures { IfOk result (λ f. f ≡ Differ left right) }
+{
+    let left = boxed(alloc, left)?;
+    Ok(Formula::Differ(left, boxed(alloc, right)?))
+}
 
 /// The negation of a formula.
 pub fn negated(alloc: Global, part: Formula) -> Result<Formula, Memory>

@@ -11,7 +11,7 @@ use crate::names::{
 };
 use nxf_base::{List, Memory};
 pub use nxf_tree::both;
-use nxf_tree::{Formula, IndexName, Op, Quantifier, SortName, Term, pair, quantified};
+use nxf_tree::{Formula, IndexName, Op, Quantifier, SortName, Term, equation, pair, quantified};
 use std::alloc::Global;
 
 /// The variable of a world as a term.
@@ -63,7 +63,7 @@ pub fn same_worlds(alloc: Global, left: u64, right: u64) -> Result<Formula, Memo
     ensures { IfOk result (λ f. f ≡ Same (meant.world left) (meant.world right)) }
 {
     let left = world(alloc, left)?;
-    Ok(Formula::Same(left, world(alloc, right)?))
+    equation(alloc, left, world(alloc, right)?)
 }
 
 /// An implication.

@@ -8,6 +8,7 @@ use crate::name::{put, put_between, write_name, write_sort};
 use crate::term::{write_application, write_term, write_terms};
 use nxf_base::{Memory, Text};
 use nxf_tree::{Formula, IndexName, Mode, Op, Quantifier, SortName, Term};
+use sqlite_items::Boxed;
 
 #[cycle(formula)]
 pub fn write_formula(out: &mut Vec<u8>, formula: &Formula) -> Result<(), Memory>
@@ -67,12 +68,17 @@ fn write_members(out: &mut Vec<u8>, operator: &[u8], formulas: &[Formula]) -> Re
     Ok(())
 }
 
-fn write_equation(out: &mut Vec<u8>, left: &Term, sign: &[u8], right: &Term) -> Result<(), Memory>
+fn write_equation(
+    out: &mut Vec<u8>,
+    left: &Boxed<Term>,
+    sign: &[u8],
+    right: &Boxed<Term>,
+) -> Result<(), Memory>
     ensures { OnOk result (out.new.items ≡ out.old.items ++ (term_text left.now ++ sign.now ++ term_text right.now)) }
 {
-    write_term(out, left)?;
+    write_term(out, left.get())?;
     put(out, sign)?;
-    write_term(out, right)
+    write_term(out, right.get())
 }
 
 /// A quantifier with its variable and its sort.

@@ -9,8 +9,20 @@ use Rattle.nxf_sorts.specs.NamedForm.{named_forms}
 use Rattle.nxf_sorts.specs.Scope.{variables, bound_in}
 use Rattle.nxf_sorts.specs.Numbering.{IsFault, NumbersFormula, KnowsIndexes, formulas_faults}
 use Rattle.nxf_sorts.proofs.UseLemmas.{fault_is}
-use Rattle.nxf_sorts.proofs.FormulaLemmas.{fault_Not, fault_And, fault_Or, not_numbered, and_numbered, or_numbered, pair_numbered, pair_first, pair_second, quantified_numbered, modal_numbered, knows_member, forms_push}
+use Rattle.nxf_sorts.proofs.FormulaLemmas.{fault_Not, fault_And, fault_Or, same_numbered, differ_numbered, not_numbered, and_numbered, or_numbered, pair_numbered, pair_first, pair_second, quantified_numbered, modal_numbered, knows_member, forms_push}
 use Rattle.nxf_sorts.proofs.formula.+number_formula.Goals as goal
+
+pub number_formula-returns-in-Ok-clause-value : goal.number_formula-returns-in-Ok-clause-value
+number_formula-returns-in-Ok-clause-value t c = rw c.in-Same.is (same_numbered c.args.names.now.signature c.args.names.now.declared c.args.binders.now c.in-Same.left c.in-Same.right c.in-Ok.a c.in-Ok.b c.in-Ok.ensures)
+
+pub number_formula-returns-in-Err-clause-value : goal.number_formula-returns-in-Err-clause-value
+number_formula-returns-in-Err-clause-value t c = rw c.in-Same.is c.in-Err.ensures
+
+pub number_formula-returns-in-Ok-number_sides-clause-value : goal.number_formula-returns-in-Ok-number_sides-clause-value
+number_formula-returns-in-Ok-number_sides-clause-value t c = rw c.in-Differ.is (differ_numbered c.args.names.now.signature c.args.names.now.declared c.args.binders.now c.in-Differ.left c.in-Differ.right c.in-Ok-number_sides.a c.in-Ok-number_sides.b c.in-Ok-number_sides.ensures)
+
+pub number_formula-returns-in-Err-number_sides-clause-value : goal.number_formula-returns-in-Err-number_sides-clause-value
+number_formula-returns-in-Err-number_sides-clause-value t c = rw c.in-Differ.is c.in-Err-number_sides.ensures
 
 pub number_formula-returns-in-Ok-number_formulas-clause-value : goal.number_formula-returns-in-Ok-number_formulas-clause-value
 number_formula-returns-in-Ok-number_formulas-clause-value t c = rw c.in-And.is (and_numbered c.args.names.now.signature c.args.names.now.declared c.args.binders.now c.in-And.parts c.in-Ok-number_formulas.nodes c.in-Ok-number_formulas.ensures.value)

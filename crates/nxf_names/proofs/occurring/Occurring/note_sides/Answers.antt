@@ -8,7 +8,10 @@ pub returns-in-Ok : goal.returns-in-Ok
 returns-in-Ok c =
     let us = uses_in c.args.declarations.now.symbols.entries in
     let old = seen_in c.args.self.now in
-    on_ok c.note_term-in-Ok.result
-    (λ h. h ∙ ap (λ s. and_occurrences us s (term_occurrences c.args.right.now)) c.in-Ok.ensures
-    ∙ sym (ap (and_occurrences us old) (of_Same c.args.left.now c.args.right.now) ∙ fold-append (and_occurrence us) old (term_occurrences c.args.left.now) (term_occurrences c.args.right.now)))
-    c.note_term-in-Ok.ensures
+    let left = c.get.result.now in
+    let right = c.get-in-Ok.result.now in
+    rw (← c.get.ensures, ← c.get-in-Ok.ensures)
+    (on_ok c.note_term-in-Ok.result
+    (λ h. h ∙ ap (λ s. and_occurrences us s (term_occurrences right)) c.in-Ok.ensures
+    ∙ sym (ap (and_occurrences us old) (of_Same left right) ∙ fold-append (and_occurrence us) old (term_occurrences left) (term_occurrences right)))
+    c.note_term-in-Ok.ensures)
