@@ -47,9 +47,9 @@ pub trait Library: Drop {
 }
 
 /// A library whose kind the caller chose.
-pub type Boxed = Box<dyn Library>;
+pub type BoxedLibrary = Box<dyn Library>;
 
-impl Library for Boxed {
+impl Library for BoxedLibrary {
     ghost shelf = { λ b. (Library-box b).shelf b.value };
 
     fn load(&mut self, name: &Text, limit: u64, into: &mut Vec<u8>) -> Result<Found, LoadError> {

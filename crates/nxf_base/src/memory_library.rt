@@ -6,7 +6,7 @@ ghost use Rattle.nxf_base.specs.Files.{file_of};
 ghost use Rattle.nxf_base.specs.Load.{Loads};
 ghost use Rattle.nxf_base.specs.Shelf.{Keeps};
 ghost use Rattle.nxf_base.specs.Causes.{Rose};
-ghost use Rattle.nxf_base.specs.Memory.{shelf_of};
+ghost use Rattle.nxf_base.specs.InMemory.{shelf_of};
 
 use crate::{Found, Library, LoadError, Memory, Text};
 use std::alloc::Global;
@@ -25,7 +25,7 @@ pub struct MemoryLibrary {
 }
 
 impl Model for MemoryLibrary {
-    ghost use Rattle.nxf_base.specs.Memory.{LibraryState, library_state_code};
+    ghost use Rattle.nxf_base.specs.InMemory.{LibraryState, library_state_code};
     ghost use Rattle.std.specs.FinMap as map;
 
     ghost Value = { LibraryState };

@@ -1,6 +1,6 @@
 ghost use Rattle.std.specs.Prelude.{◌≡◌, ℕ, ◌+◌, ◌-◌, ◌≤◌, ◌<◌, ◌^◌, [], ◌∷◌, ◌++◌, length, min, OnOk, OnErr, IfOk, IsErrOf, Some, ◌↔◌, ◌⊎◌};
 ghost use Rattle.std.specs.List.{Contains};
-ghost use Rattle.nxf_base.specs.Memory.{SinkState};
+ghost use Rattle.nxf_base.specs.InMemory.{SinkState};
 ghost use Rattle.nxf_base.specs.Write.{Takes, HasWriteCause};
 
 use crate::{Memory, Sink, SinkError};
@@ -19,7 +19,7 @@ pub struct MemorySink {
 
 impl Model for MemorySink {
     ghost use Rattle.std.specs.Prelude.{◌≤◌};
-    ghost use Rattle.nxf_base.specs.Memory.{SinkState};
+    ghost use Rattle.nxf_base.specs.InMemory.{SinkState};
 
     ghost Value = { SinkState };
 

@@ -2,7 +2,7 @@ use crate::dir_library::DirLibrary;
 use crate::std_sink::{StdSink, Stream};
 use crate::stdin_library::StdinLibrary;
 use crate::words::read_words;
-use nxf_base::{Boxed, Memory, Status};
+use nxf_base::{BoxedLibrary, Memory, Status};
 use nxf_include::Roots;
 use nxf_run::run;
 use std::env;
@@ -15,16 +15,16 @@ pub fn start(rt: HostRuntime) -> Result<Status, Memory> {
     let alloc = rt.alloc();
     let words = read_words(&rt, alloc)?;
     let mut roots = Roots::new(alloc);
-    let stdin: Boxed = Box::new(alloc, StdinLibrary::new(rt.clone()?))?;
+    let stdin: BoxedLibrary = Box::new(alloc, StdinLibrary::new(rt.clone()?))?;
     roots.push(stdin)?;
-    let here: Boxed = Box::new(
+    let here: BoxedLibrary = Box::new(
         alloc,
         DirLibrary::new(rt.clone()?, alloc, String::new(alloc)),
     )?;
     roots.push(here)?;
     match env::var(&rt, "TPTP") {
         Ok(folder) => {
-            let there: Boxed = Box::new(alloc, DirLibrary::new(rt.clone()?, alloc, folder))?;
+            let there: BoxedLibrary = Box::new(alloc, DirLibrary::new(rt.clone()?, alloc, folder))?;
             roots.push(there)?;
         }
         Err(VarError::OutOfMemory) => return Err(Memory),

@@ -1,8 +1,8 @@
 -- There is a reading and a gathering, and no other.
 use Rattle.std.proofs.Common.{◌≡◌, ℕ, List}
+use Rattle.nxf_base.specs.Exactly.{ExactlyOne}
 use Rattle.nxf_base.specs.Files.{Files}
 use Rattle.nxf_include.specs.Gathered.{Reads, Gathers}
-use Rattle.nxf_include.specs.Steps.{ExactlyOne}
 use Rattle.nxf_include.proofs.OneGathering.{one_reading, one_gathering}
 use Rattle.nxf_include.proofs.SomeGathering.{some_reading, some_gathering}
 

@@ -13,7 +13,3 @@ Is answer result = result ≡ answer
 -- a step and then the next one, on what the first gave; where the first is refused, its refusal is the result
 abbrev pub Then : {A B : Type 0} → Step A → (A → Step B) → Step B
 Then {A} First Next result = ((x : A) × First (Ok x) × Next x result) ⊎ ((e : GatherError) × First (Err e) × (result ≡ Err e))
-
--- one thing is so, and no other
-abbrev pub ExactlyOne : {A : Type 0} → (A → Type 0) → Type 0
-ExactlyOne {A} IsSo = (one : A) × IsSo one × ((other : A) → IsSo other → other ≡ one)

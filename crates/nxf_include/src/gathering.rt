@@ -10,7 +10,7 @@ use crate::gather_error::deep;
 use crate::reading::{Visited, enter};
 use crate::selection::{add, add_selected};
 use crate::{GatherError, Roots};
-use nxf_base::{Boxed, Library, List, Memory, Text};
+use nxf_base::{BoxedLibrary, Library, List, Memory, Text};
 use nxf_tree::{File, Statement};
 use std::alloc::Global;
 
@@ -21,13 +21,13 @@ const LEVELS: u32 = 17;
 /// the answer is theirs by `Gathers`, or a read fault, or want of memory. Whatever they tell, a file is absent only where each
 /// library missed it, there is a read fault only where a library failed, and the file is fine.
 pub fn gather(alloc: Global, roots: &mut Roots, name: &Text) -> Result<File, GatherError>
-    ensures answers { Meets (files_of (map ⟦<Boxed as Library>⟧.shelf roots.old.libraries.items)) (λ files. Gathers files name.now) result }
+    ensures answers { Meets (files_of (map ⟦<BoxedLibrary as Library>⟧.shelf roots.old.libraries.items)) (λ files. Gathers files name.now) result }
     ensures fine { IfOk result (λ file. IsFine file) }
     ensures no_file { (missing : _) → result ≡ Err (GatherError.NoFile missing)
-        → EachMissRose (map ⟦<Boxed as Library>⟧.shelf roots.old.libraries.items) (map ⟦<Boxed as Library>⟧.shelf roots.new.libraries.items) }
+        → EachMissRose (map ⟦<BoxedLibrary as Library>⟧.shelf roots.old.libraries.items) (map ⟦<BoxedLibrary as Library>⟧.shelf roots.new.libraries.items) }
     ensures read_fault { result ≡ Err GatherError.ReadFault
-        → SomeFaultRose (map ⟦<Boxed as Library>⟧.shelf roots.old.libraries.items) (map ⟦<Boxed as Library>⟧.shelf roots.new.libraries.items) }
-    ensures keeps { Keeps (map ⟦<Boxed as Library>⟧.shelf roots.old.libraries.items) (map ⟦<Boxed as Library>⟧.shelf roots.new.libraries.items) }
+        → SomeFaultRose (map ⟦<BoxedLibrary as Library>⟧.shelf roots.old.libraries.items) (map ⟦<BoxedLibrary as Library>⟧.shelf roots.new.libraries.items) }
+    ensures keeps { Keeps (map ⟦<BoxedLibrary as Library>⟧.shelf roots.old.libraries.items) (map ⟦<BoxedLibrary as Library>⟧.shelf roots.new.libraries.items) }
 {
     gather_from(alloc, &mut roots.libraries, name)
 }

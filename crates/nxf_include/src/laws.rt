@@ -1,5 +1,6 @@
 //! What holds of the definitions alone.
 ghost use Rattle.std.specs.Prelude.{ℕ, ◌⊎◌, List, Result};
+ghost use Rattle.nxf_base.specs.Exactly.{ExactlyOne};
 ghost use Rattle.nxf_base.specs.Files.{Files};
 ghost use Rattle.tptp_lex.specs.declared.token.Token.{Token};
 ghost use Rattle.tptp_lex.specs.Lexing.{Lexes, IsBadPlace};
@@ -9,7 +10,6 @@ ghost use Rattle.nxf_grammar.specs.Spells.{TokensSpell, IsFirstFault};
 ghost use Rattle.nxf_include.specs.declared.gather_error.GatherError.{GatherError};
 ghost use Rattle.nxf_include.specs.Gathered.{Reads, Gathers};
 ghost use Rattle.nxf_include.specs.Refusals.{IsOfFiles};
-ghost use Rattle.nxf_include.specs.Steps.{ExactlyOne};
 
 /// Each text has tokens, or a place where its lexemes end; and in each profile its tokens spell a file, or there is a first
 /// statement that no rule reads.

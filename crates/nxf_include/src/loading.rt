@@ -6,7 +6,7 @@ ghost use Rattle.nxf_include.specs.Refusals.{IsOfLoading, Refuses};
 
 use crate::gather_error::{no_file, too_long};
 use crate::{GatherError, Roots, load_first};
-use nxf_base::{Boxed, Found, Library, LoadError, Text};
+use nxf_base::{BoxedLibrary, Found, Library, LoadError, Text};
 use std::alloc::Global;
 
 /// The greatest length of one file.
@@ -15,17 +15,17 @@ const FILE_LIMIT: u64 = 16_777_216;
 /// The bytes of one file, at most 16,777,216. Where the libraries tell their files, the answer is theirs. Whatever they tell, a
 /// file is absent only where each library missed it, and there is a read fault only where a library failed.
 pub fn load_one(alloc: Global, roots: &mut Roots, name: &Text) -> Result<Vec<u8>, GatherError>
-    ensures bytes { let told = files_of (map ⟦<Boxed as Library>⟧.shelf roots.old.libraries.items) in
+    ensures bytes { let told = files_of (map ⟦<BoxedLibrary as Library>⟧.shelf roots.old.libraries.items) in
         IfOk result (λ bytes. IfSome told (λ files. loaded files name.now ≡ Ok bytes.items)) }
-    ensures refusal { let told = files_of (map ⟦<Boxed as Library>⟧.shelf roots.old.libraries.items) in
+    ensures refusal { let told = files_of (map ⟦<BoxedLibrary as Library>⟧.shelf roots.old.libraries.items) in
         IfErr result (Refuses told (λ files. loaded files name.now)) }
     ensures limit { IfOk result (λ bytes. length bytes.items ≤ 16777216) }
     ensures only { IfErr result IsOfLoading }
     ensures no_file { (missing : _) → result ≡ Err (GatherError.NoFile missing)
-        → EachMissRose (map ⟦<Boxed as Library>⟧.shelf roots.old.libraries.items) (map ⟦<Boxed as Library>⟧.shelf roots.new.libraries.items) }
+        → EachMissRose (map ⟦<BoxedLibrary as Library>⟧.shelf roots.old.libraries.items) (map ⟦<BoxedLibrary as Library>⟧.shelf roots.new.libraries.items) }
     ensures read_fault { result ≡ Err GatherError.ReadFault
-        → SomeFaultRose (map ⟦<Boxed as Library>⟧.shelf roots.old.libraries.items) (map ⟦<Boxed as Library>⟧.shelf roots.new.libraries.items) }
-    ensures keeps { Keeps (map ⟦<Boxed as Library>⟧.shelf roots.old.libraries.items) (map ⟦<Boxed as Library>⟧.shelf roots.new.libraries.items) }
+        → SomeFaultRose (map ⟦<BoxedLibrary as Library>⟧.shelf roots.old.libraries.items) (map ⟦<BoxedLibrary as Library>⟧.shelf roots.new.libraries.items) }
+    ensures keeps { Keeps (map ⟦<BoxedLibrary as Library>⟧.shelf roots.old.libraries.items) (map ⟦<BoxedLibrary as Library>⟧.shelf roots.new.libraries.items) }
 {
     load_one_from(alloc, &mut roots.libraries, name)
 }

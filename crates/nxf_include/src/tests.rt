@@ -1,7 +1,7 @@
 ghost use Rattle.std.specs.Prelude.{◌≡◌, ◌+◌, ◌<◌, ◌^◌, ◌++◌, take, None, Ok, OnOk, OnErr, IsErrOf};
 
 use crate::{GatherError, Roots, gather, gather_from, load_first, load_one};
-use nxf_base::{Boxed, Found, Library, LoadError, MemoryLibrary, Text};
+use nxf_base::{BoxedLibrary, Found, Library, LoadError, MemoryLibrary, Text};
 use nxf_tree::{File, Statement};
 use std::alloc::Global;
 use std::test::Fail;
@@ -210,14 +210,14 @@ fn libraries_in_order(rt: HostRuntime) -> Result<(), Fail> {
     let alloc = rt.alloc();
     let mut roots = Roots::new(alloc);
     assert!(rt; !roots.drop_last());
-    let first: Boxed = Box::new(alloc, library(alloc, &[("-", "include('A').")], 0)?)?;
+    let first: BoxedLibrary = Box::new(alloc, library(alloc, &[("-", "include('A').")], 0)?)?;
     assert!(rt; roots.push(first).is_ok());
     let others = library(
         alloc,
         &[("-", "tff(x,axiom,p)."), ("A", "tff(y,axiom,p).")],
         3,
     )?;
-    let second: Boxed = Box::new(alloc, others)?;
+    let second: BoxedLibrary = Box::new(alloc, others)?;
     assert!(rt; roots.push(second).is_ok());
     let name = Text::from_bytes(alloc, b"-")?;
     let both = written(alloc, &gather(alloc, &mut roots, &name))?;

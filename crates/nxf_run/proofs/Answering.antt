@@ -1,5 +1,6 @@
 -- The words have exactly one answer, and a refusal in it is none of those that come from outside.
 use Rattle.std.proofs.Common.{◌≡◌, ℕ, List, Option, None, Some, Result, Ok, Err, refl, sym, ap, subst, ◌∙◌}
+use Rattle.nxf_base.specs.Exactly.{ExactlyOne}
 use Rattle.nxf_base.specs.Files.{Files}
 use Rattle.nxf_base.specs.declared.status.Status.{Status}
 use Rattle.nxf_base.specs.declared.status.Status.TheVariants as status
@@ -9,7 +10,6 @@ use Rattle.nxf_include.specs.declared.gather_error.GatherError.{GatherError}
 use Rattle.nxf_include.specs.declared.gather_error.GatherError.TheVariants as gather
 use Rattle.nxf_include.specs.Gathered.{Gathers}
 use Rattle.nxf_include.specs.Refusals.{IsOfFiles}
-use Rattle.nxf_include.specs.Steps.{ExactlyOne}
 use Rattle.nxf_include.proofs.ExactlyOne.{exactly_one}
 use Rattle.nxf_include.proofs.OneGathering.{one_gathering}
 use Rattle.nxf_include.proofs.SomeGathering.{some_gathering, gathering_of_files}

@@ -1,14 +1,14 @@
 //! The top call.
 ghost use Rattle.std.specs.Prelude.{◌≡◌, ℕ, List, Some, map};
+ghost use Rattle.nxf_base.specs.Exactly.{ExactlyOne};
 ghost use Rattle.nxf_base.specs.Files.{Files};
 ghost use Rattle.nxf_include.specs.Roots.{files_of};
-ghost use Rattle.nxf_include.specs.Steps.{ExactlyOne};
 ghost use Rattle.nxf_run.specs.Answer.{IsAnswer};
 ghost use Rattle.nxf_run.specs.Ending.{Follows, HasCause, MayEnd, Reports, Completes, Means};
 
 use crate::output::{report, write_all};
 use crate::prepare::prepare;
-use nxf_base::{Boxed, Library, List, Sink, SinkError, Status, Text};
+use nxf_base::{BoxedLibrary, Library, List, Sink, SinkError, Status, Text};
 use nxf_include::Roots;
 use std::alloc::Global;
 
@@ -23,19 +23,19 @@ pub fn run<O: Sink, E: Sink>(
     err: &mut E,
 ) -> Status
     // The status and the bytes of `out` are those of the answer.
-    ensures answers { Follows (files_of (map ⟦<Boxed as Library>⟧.shelf roots.old.libraries.items)) words.now result (O.held out.old) (O.held out.new) }
+    ensures answers { Follows (files_of (map ⟦<BoxedLibrary as Library>⟧.shelf roots.old.libraries.items)) words.now result (O.held out.old) (O.held out.new) }
 
     // A status that came from outside has its cause there.
-    ensures causes { HasCause words.now result (map ⟦<Boxed as Library>⟧.shelf roots.old.libraries.items) (map ⟦<Boxed as Library>⟧.shelf roots.new.libraries.items) (O.faults out.old) (O.faults out.new) }
+    ensures causes { HasCause words.now result (map ⟦<BoxedLibrary as Library>⟧.shelf roots.old.libraries.items) (map ⟦<BoxedLibrary as Library>⟧.shelf roots.new.libraries.items) (O.faults out.old) (O.faults out.new) }
 
     // A refusal is told to `err`.
-    ensures reports { Reports (MayEnd words.now (map ⟦<Boxed as Library>⟧.shelf roots.old.libraries.items) (map ⟦<Boxed as Library>⟧.shelf roots.new.libraries.items) (O.held out.old) (O.held out.new) (O.faults out.old) (O.faults out.new)) result (E.held err.old) (E.held err.new) (E.faults err.old) (E.faults err.new) }
+    ensures reports { Reports (MayEnd words.now (map ⟦<BoxedLibrary as Library>⟧.shelf roots.old.libraries.items) (map ⟦<BoxedLibrary as Library>⟧.shelf roots.new.libraries.items) (O.held out.old) (O.held out.new) (O.faults out.old) (O.faults out.new)) result (E.held err.old) (E.held err.new) (E.faults err.old) (E.faults err.new) }
 
     // Where there is a text and nothing failed, it is given.
-    ensures completes { Completes words.now result (map ⟦<Boxed as Library>⟧.shelf roots.old.libraries.items) (map ⟦<Boxed as Library>⟧.shelf roots.new.libraries.items) (O.faults out.old) (O.faults out.new) }
+    ensures completes { Completes words.now result (map ⟦<BoxedLibrary as Library>⟧.shelf roots.old.libraries.items) (map ⟦<BoxedLibrary as Library>⟧.shelf roots.new.libraries.items) (O.faults out.old) (O.faults out.new) }
 
     // The text means what the file means: their countermodels correspond.
-    ensures means { result ≡ Status.Ok → Means (files_of (map ⟦<Boxed as Library>⟧.shelf roots.old.libraries.items)) words.now (O.held out.old) (O.held out.new) }
+    ensures means { result ≡ Status.Ok → Means (files_of (map ⟦<BoxedLibrary as Library>⟧.shelf roots.old.libraries.items)) words.now (O.held out.old) (O.held out.new) }
 {
     run_over(alloc, words, &mut roots.libraries, out, err)
 }

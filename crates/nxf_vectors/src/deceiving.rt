@@ -3,7 +3,7 @@ ghost use Rattle.std.specs.Prelude.{◌≡◌, ℕ, ◌+◌, ◌-◌, ◌^◌, �
 
 use crate::outcome::summary;
 use nxf_base::{
-    Boxed, CalmSink, Found, Library, List, LoadError, MemoryLibrary, Sink, SinkError, Text,
+    BoxedLibrary, CalmSink, Found, Library, List, LoadError, MemoryLibrary, Sink, SinkError, Text,
 };
 use nxf_include::Roots;
 use nxf_run::run;
@@ -144,7 +144,7 @@ fn words_of(alloc: Global, words: &[&str]) -> Result<List<Text>, Fail> {
 fn fickle_library(rt: HostRuntime) -> Result<(), Fail> {
     let alloc = rt.alloc();
     let words = words_of(alloc, &["embed", "-"])?;
-    let boxed: Boxed = Box::new(alloc, Fickle { alloc, loads: 0 })?;
+    let boxed: BoxedLibrary = Box::new(alloc, Fickle { alloc, loads: 0 })?;
     let mut roots = Roots::new(alloc);
     if roots.push(boxed).is_err() {
         return Err(Fail::new("no memory"));
@@ -177,8 +177,8 @@ fn fickle_library_first(rt: HostRuntime) -> Result<(), Fail> {
     let words = words_of(alloc, &["embed", "-"])?;
     let mut library = MemoryLibrary::new(alloc);
     library.add(Text::from_bytes(alloc, b"-")?, b"tff(c,conjecture,p")?;
-    let first: Boxed = Box::new(alloc, Fickle { alloc, loads: 0 })?;
-    let second: Boxed = Box::new(alloc, library)?;
+    let first: BoxedLibrary = Box::new(alloc, Fickle { alloc, loads: 0 })?;
+    let second: BoxedLibrary = Box::new(alloc, library)?;
     let mut roots = Roots::new(alloc);
     if roots.push(first).is_err() {
         return Err(Fail::new("no memory"));

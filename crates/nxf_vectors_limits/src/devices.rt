@@ -1,6 +1,6 @@
 // Outputs that fail, and libraries in order.
 use crate::texts::{LOGIC, PROBLEM, TRANSLATED, answer_over, embed_stdin, one_file};
-use nxf_base::{Boxed, CalmSink, MemoryLibrary, MemorySink, Text};
+use nxf_base::{BoxedLibrary, CalmSink, MemoryLibrary, MemorySink, Text};
 use nxf_include::Roots;
 use nxf_run::run;
 use std::test::Fail;
@@ -11,7 +11,7 @@ fn failing_output(rt: HostRuntime) -> Result<(), Fail> {
     let alloc = rt.alloc();
     let words = embed_stdin(alloc)?;
     let text = TRANSLATED.as_bytes();
-    let boxed: Boxed = Box::new(alloc, one_file(alloc, PROBLEM.as_bytes())?)?;
+    let boxed: BoxedLibrary = Box::new(alloc, one_file(alloc, PROBLEM.as_bytes())?)?;
     let mut roots = Roots::new(alloc);
     assert!(rt; roots.push(boxed).is_ok());
     for written in 0..=text.len() {
@@ -34,7 +34,7 @@ fn failing_output(rt: HostRuntime) -> Result<(), Fail> {
 fn failing_error_output(rt: HostRuntime) -> Result<(), Fail> {
     let alloc = rt.alloc();
     let words = embed_stdin(alloc)?;
-    let boxed: Boxed = Box::new(alloc, one_file(alloc, b"")?)?;
+    let boxed: BoxedLibrary = Box::new(alloc, one_file(alloc, b"")?)?;
     let mut roots = Roots::new(alloc);
     assert!(rt; roots.push(boxed).is_ok());
     let mut out = CalmSink::new(alloc);
@@ -51,7 +51,7 @@ fn failing_error_output(rt: HostRuntime) -> Result<(), Fail> {
 fn both_outputs_failing(rt: HostRuntime) -> Result<(), Fail> {
     let alloc = rt.alloc();
     let words = embed_stdin(alloc)?;
-    let boxed: Boxed = Box::new(alloc, one_file(alloc, PROBLEM.as_bytes())?)?;
+    let boxed: BoxedLibrary = Box::new(alloc, one_file(alloc, PROBLEM.as_bytes())?)?;
     let mut roots = Roots::new(alloc);
     assert!(rt; roots.push(boxed).is_ok());
     let mut out = MemorySink::new(alloc, 1);
@@ -70,8 +70,8 @@ fn both_outputs_failing(rt: HostRuntime) -> Result<(), Fail> {
 fn dropped_library(rt: HostRuntime) -> Result<(), Fail> {
     let alloc = rt.alloc();
     let words = embed_stdin(alloc)?;
-    let first: Boxed = Box::new(alloc, MemoryLibrary::new(alloc))?;
-    let second: Boxed = Box::new(alloc, one_file(alloc, PROBLEM.as_bytes())?)?;
+    let first: BoxedLibrary = Box::new(alloc, MemoryLibrary::new(alloc))?;
+    let second: BoxedLibrary = Box::new(alloc, one_file(alloc, PROBLEM.as_bytes())?)?;
     let mut roots = Roots::new(alloc);
     assert!(rt; roots.push(first).is_ok());
     assert!(rt; roots.push(second).is_ok());
