@@ -14,7 +14,8 @@ pub record LibraryState : Type 0 where
 
 abbrev pub library_state_code : Coded LibraryState
 library_state_code =
-    code_by (Files × (List ℕ × (ℕ × (ℕ × ℕ)))) (coded× files_code (coded× (coded_list coded_ℕ) (coded× coded_ℕ (coded× coded_ℕ coded_ℕ))))
+    code_by (Files × (List ℕ × (ℕ × (ℕ × ℕ))))
+    (coded× files_code (coded× (coded_list coded_ℕ) (coded× coded_ℕ (coded× coded_ℕ coded_ℕ))))
     (λ s. (s.files, (s.failing, (s.calls, (s.faults, s.misses)))))
     (λ p. record { files = p.0; failing = p.1.0; calls = p.1.1.0; faults = p.1.1.1.0; misses = p.1.1.1.1 })
     (λ _. refl)

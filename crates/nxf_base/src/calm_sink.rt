@@ -1,3 +1,4 @@
+//! A sink in memory that never fails, and takes whatever it is given.
 ghost use Rattle.std.specs.Prelude.{◌≡◌, ◌<◌, ◌++◌, [], length, IfOk, IfErr, Some};
 ghost use Rattle.nxf_base.specs.Write.{Takes, HasWriteCause};
 
@@ -5,7 +6,7 @@ use crate::{Sink, SinkError};
 use std::alloc::Global;
 use std::marker::Model;
 
-/// A sink in memory that never fails, and takes whatever it is given.
+/// A sink in memory, which contracts see as the list of the bytes that it holds. No write answers `Fault`.
 #[derive(Drop)]
 pub struct CalmSink {
     held: Vec<u8>,
@@ -20,7 +21,7 @@ impl Model for CalmSink {
 }
 
 impl CalmSink {
-    /// An empty sink.
+    /// An empty sink. It takes no memory yet.
     pub fn new(alloc: Global) -> CalmSink
         ensures { result ≡ [] }
     {
@@ -29,7 +30,7 @@ impl CalmSink {
         }
     }
 
-    /// The bytes that it holds.
+    /// The bytes that it holds, in the order of the writes.
     pub fn bytes(&self) -> &[u8]
         ensures { result.now ≡ self.now }
     {
@@ -50,10 +51,8 @@ impl Sink for CalmSink {
         ensures all { IfOk result (λ count. count ≡ length bytes.now) }
         ensures calm { IfErr result (λ error. error ≡ SinkError.Memory) }
     {
-        match self.held.extend_from_slice(bytes) {
-            Ok(()) => Ok(bytes.len()),
-            Err(_) => Err(SinkError::Memory),
-        }
+        self.held.extend_from_slice(bytes)?;
+        Ok(bytes.len())
     }
 
     fn faults(&self) -> u64 {

@@ -1,5 +1,6 @@
-// A library in memory, whose loads can be made to fail.
-ghost use Rattle.std.specs.Prelude.{◌≡◌, ℕ, ◌+◌, ◌-◌, ◌<◌, ◌^◌, [], ◌∷◌, ◌++◌, min, take, OnOk, OnErr, Some, None, MatchOption, Ok, IsErrOf, ◌↔◌, ◌⊎◌};
+//! A library in memory, whose loads can be made to fail.
+ghost use Rattle.std.specs.Prelude.{◌≡◌, ℕ, ◌+◌, ◌-◌, ◌<◌, ◌^◌, [], ◌∷◌, ◌++◌, min, take};
+ghost use Rattle.std.specs.Prelude.{OnOk, OnErr, Some, None, MatchOption, Ok, IsErrOf, ◌↔◌, ◌⊎◌};
 ghost use Rattle.std.specs.List.{Contains};
 ghost use Rattle.std.specs.FinMap as map;
 ghost use Rattle.nxf_base.specs.Files.{file_of};
@@ -13,6 +14,7 @@ use std::alloc::Global;
 use std::collections::VecDeque;
 use std::marker::Model;
 
+/// A library in memory, which tells its files, and answers `Fault` at the loads that it was told.
 #[derive(Drop)]
 pub struct MemoryLibrary {
     alloc: Global,
@@ -32,10 +34,17 @@ impl Model for MemoryLibrary {
 
     ghost coded = { library_state_code };
 
-    ghost view = { λ m. record { files = map.from_entries m.stored.items; failing = m.failing.items; calls = m.calls; faults = m.faults; misses = m.misses } };
+    ghost view = { λ m. record {
+      files = map.from_entries m.stored.items;
+      failing = m.failing.items;
+      calls = m.calls;
+      faults = m.faults;
+      misses = m.misses;
+    } };
 }
 
 impl MemoryLibrary {
+    /// A library with no file, whose loads never answer `Fault`. It takes no memory yet.
     pub fn new(alloc: Global) -> MemoryLibrary
         ensures { result ≡ record { files = map.empty; failing = []; calls = 0; faults = 0; misses = 0 } }
     {
@@ -49,7 +58,7 @@ impl MemoryLibrary {
         }
     }
 
-    /// Adds a file, in the place of an earlier one of that name.
+    /// Adds a file, in the place of an earlier one of that name. Where there is no memory nothing changes.
     pub fn add(&mut self, name: Text, bytes: &[u8]) -> Result<(), Memory>
         ensures ok { OnOk result (self.new ≡ record self.old { files = map.insert self.old.files name bytes.now }) }
         ensures err { OnErr result (self.new ≡ self.old) }
@@ -59,7 +68,7 @@ impl MemoryLibrary {
         Ok(())
     }
 
-    /// The load with that number, counted from 1, answers `Fault`.
+    /// The load with that number, counted from 1, will answer `Fault`. Where there is no memory nothing changes.
     pub fn fail_at(&mut self, call: u64) -> Result<(), Memory>
         ensures ok { OnOk result (self.new ≡ record self.old { failing = self.old.failing ++ call ∷ [] }) }
         ensures err { OnErr result (self.new ≡ self.old) }
@@ -128,8 +137,6 @@ fn append(file: &[u8], limit: u64, into: &mut Vec<u8>) -> Result<Found, LoadErro
     ensures fault { IsErrOf result LoadError.Fault → ⊥ }
 {
     let end = file.len().min(limit as usize + 1);
-    match into.extend_from_slice(&file[..end]) {
-        Ok(()) => Ok(Found::Here),
-        Err(_) => Err(LoadError::Memory),
-    }
+    into.extend_from_slice(&file[..end])?;
+    Ok(Found::Here)
 }

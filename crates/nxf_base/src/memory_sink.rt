@@ -1,4 +1,6 @@
-ghost use Rattle.std.specs.Prelude.{◌≡◌, ℕ, ◌+◌, ◌-◌, ◌≤◌, ◌<◌, ◌^◌, [], ◌∷◌, ◌++◌, length, min, OnOk, OnErr, IfOk, IsErrOf, Some, ◌↔◌, ◌⊎◌};
+//! A sink in memory, whose writes can be made to fail.
+ghost use Rattle.std.specs.Prelude.{◌≡◌, ℕ, ◌+◌, ◌-◌, ◌≤◌, ◌<◌, ◌^◌, [], ◌∷◌, ◌++◌, length, min};
+ghost use Rattle.std.specs.Prelude.{OnOk, OnErr, IfOk, IsErrOf, Some, ◌↔◌, ◌⊎◌};
 ghost use Rattle.std.specs.List.{Contains};
 ghost use Rattle.nxf_base.specs.InMemory.{SinkState};
 ghost use Rattle.nxf_base.specs.Write.{Takes, HasWriteCause};
@@ -7,7 +9,7 @@ use crate::{Memory, Sink, SinkError};
 use std::alloc::Global;
 use std::marker::Model;
 
-/// A sink in memory that takes a few bytes at a time, and whose writes can be made to fail.
+/// A sink in memory that takes at most `piece` bytes at a time, and answers `Fault` at the writes that it was told.
 #[derive(Drop)]
 pub struct MemorySink {
     held: Vec<u8>,
@@ -23,7 +25,13 @@ impl Model for MemorySink {
 
     ghost Value = { SinkState };
 
-    ghost view = { λ s. record { held = s.held.items; piece = s.piece; failing = s.failing.items; calls = s.calls; faults = s.faults } };
+    ghost view = { λ s. record {
+      held = s.held.items;
+      piece = s.piece;
+      failing = s.failing.items;
+      calls = s.calls;
+      faults = s.faults;
+    } };
 
     ghost invariant = { λ s. 1 ≤ s.piece };
 }
@@ -43,7 +51,7 @@ impl MemorySink {
         }
     }
 
-    /// The write with that number, counted from 1, answers `Fault`. Where there is no memory nothing changes.
+    /// The write with that number, counted from 1, will answer `Fault`. Where there is no memory nothing changes.
     pub fn fail_at(&mut self, call: u64) -> Result<(), Memory>
         ensures ok { OnOk result (self.new ≡ record self.old { failing = self.old.failing ++ call ∷ [] }) }
         ensures err { OnErr result (self.new ≡ self.old) }
@@ -52,7 +60,7 @@ impl MemorySink {
         Ok(())
     }
 
-    /// The bytes that it holds.
+    /// The bytes that it holds, in the order of the writes.
     pub fn bytes(&self) -> &[u8]
         ensures { result.now ≡ self.now.held }
     {
@@ -83,10 +91,8 @@ impl Sink for MemorySink {
             return Err(SinkError::Fault);
         }
         let end = bytes.len().min(self.piece as usize);
-        match self.held.extend_from_slice(&bytes[..end]) {
-            Ok(()) => Ok(end),
-            Err(_) => Err(SinkError::Memory),
-        }
+        self.held.extend_from_slice(&bytes[..end])?;
+        Ok(end)
     }
 
     fn faults(&self) -> u64 {

@@ -23,7 +23,7 @@ impl Model for ShortText {
 }
 
 impl ShortText {
-    /// One text after another.
+    /// One text after another, of at most `SHORT_LEN` bytes together.
     pub fn joined(front: &[u8], back: &[u8]) -> ShortText
         requires { length front.now + length back.now ≤ SHORT_LEN }
         ensures { result ≡ front.now ++ back.now }
@@ -39,7 +39,7 @@ impl ShortText {
         }
     }
 
-    /// The bytes.
+    /// The bytes in order.
     pub fn bytes(&self) -> &[u8]
         ensures { result.now ≡ self.now }
     {

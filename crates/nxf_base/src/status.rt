@@ -1,3 +1,4 @@
+//! How a run ends.
 ghost use Rattle.std.specs.Prelude.{◌≡◌};
 ghost use Rattle.nxf_base.specs.Status.{code_of};
 
@@ -51,41 +52,60 @@ pub enum Status {
 }
 
 /// Why a role is refused.
-#[derive(Debug, Drop, Clone, Copy, PartialEq, Eq)]
+#[derive(Debug, Drop, Clone, Copy)]
 pub enum RoleKind {
+    /// The role is none that is read.
     Unknown,
+    /// The statement is a second conjecture.
     TwoConjectures,
 }
 
-/// Why the logic specification is refused: the number of the second logic statement, or a key as it is written.
+/// Why the logic specification is refused. Keys stand as they are written.
 #[derive(Debug, Drop)]
 pub enum SpecKind {
+    /// There is no logic statement.
     Absent,
+    /// This statement is the second logic statement.
     Two(u32),
+    /// The logic is not `$modal`.
     NotModal,
+    /// The key is none of the four.
     UnknownKey(Text),
+    /// The key came before in its list.
     DuplicateKey(Text),
+    /// The value under this key is not allowed.
     UnknownValue(Text),
+    /// The modalities are not given.
     NoModalities,
 }
 
 /// Why a statement is not well sorted.
-#[derive(Debug, Drop, Clone, Copy, PartialEq, Eq)]
+#[derive(Debug, Drop, Clone, Copy)]
 pub enum SortKind {
+    /// The name has two types, or is a sort and a symbol.
     DoubleName,
+    /// The sort is not declared.
     UnknownSort,
+    /// The name is used otherwise than its type says.
     Mismatch,
+    /// The variable is bound by no quantifier.
     FreeVariable,
+    /// The logic statement asks something of a name that does not occur.
     UnknownOverride,
 }
 
-/// Why an interpretation is refused: at a statement, or a table of which only some rows are given.
+/// Why an interpretation is refused.
 #[derive(Debug, Drop)]
 pub enum InterpKind {
+    /// This statement is no statement of an interpretation.
     Form(u32),
+    /// This statement names an element that is not there.
     UnknownElement(u32),
+    /// This statement names a symbol that is not there.
     UnknownSymbol(u32),
+    /// This statement says something else than an earlier one.
     Clash(u32),
+    /// Only some rows of this symbol's table are given.
     Incomplete(Text),
 }
 
@@ -93,17 +113,24 @@ pub enum InterpKind {
 /// messages write them; premises and the conjecture by the number of their statement.
 #[derive(Debug, Drop)]
 pub enum Fails {
+    /// The relation of this index lacks this scheme.
     Frame(Text, Text),
+    /// This sort has no element at a world.
     Empty(Text),
+    /// An element of this sort is at no world.
     Union(Text),
+    /// The domains of this sort do not grow along this index.
     Monotone(Text, Text),
+    /// This symbol's value lies outside the domain of the world.
     Local(Text),
+    /// This premise is false at an actual world.
     Premise(u32),
+    /// The conjecture is true at each actual world.
     Conjecture(u32),
 }
 
 impl Status {
-    /// The exit code of the program.
+    /// The exit code of the program: 0 for `Ok`, and for each other status a number of its own from 2 to 21.
     pub fn code(&self) -> u8
         ensures { result ≡ code_of self.now }
     {
