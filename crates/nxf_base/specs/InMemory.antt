@@ -24,6 +24,7 @@ library_state_code =
 abbrev pub shelf_of : LibraryState → Shelf
 shelf_of s = record { files = Some s.files; faults = s.faults; misses = s.misses }
 
+-- a sink in memory: its bytes, the most that a write takes, the writes that fail, the number of the last write, and the failures
 pub record SinkState : Type 0 where
   pub held : List ℕ
   pub piece : ℕ

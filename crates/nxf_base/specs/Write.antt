@@ -13,6 +13,7 @@ abbrev pub Takes : Option (List ℕ) → Option (List ℕ) → List ℕ → Resu
 Takes before now bytes (Ok n) = (1 ≤ n) × (n ≤ length bytes) × Appends before now (take n bytes)
 Takes before now bytes (Err e) = now ≡ before
 
+-- the count of failures never falls, and a failure is counted
 pub record HasWriteCause (faults faults_now : ℕ) (result : Result ℕ SinkError) : Type 0 where
   pub later : faults ≤ faults_now
   pub fault : IsErrOf result Fault → Rose faults faults_now
