@@ -5,3 +5,4 @@ pub mod Noted
 pub mod Asked
 pub mod TablesLaw
 pub mod Small
+pub mod FewNames

@@ -8,7 +8,7 @@ use Rattle.nxf_tree.specs.Sorting.{SymbolType}
 use Rattle.nxf_names.specs.Places.{sort_list, index_list}
 use Rattle.nxf_names.specs.Naming.{HasNames}
 
-mapped_length : {A B : Type 0} (f : A → B) (xs : List A) → length (map f xs) ≡ length xs
+pub mapped_length : {A B : Type 0} (f : A → B) (xs : List A) → length (map f xs) ≡ length xs
 mapped_length f [] = refl
 mapped_length f (x ∷ xs) = ap suc (mapped_length f xs)
 

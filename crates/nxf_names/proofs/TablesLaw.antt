@@ -93,5 +93,7 @@ module _ (ss : List Statement) (t : Tables) where
       declared = declared_are;
       sorts = λ i. if individual_is i then Individual ∷ user_sorts i else user_sorts i;
       symbols = symbols_are;
+      users = user_sorts;
+      named = named_indexes;
       indexes = λ i. if plain_is i then Plain ∷ named_indexes i else named_indexes i;
     }

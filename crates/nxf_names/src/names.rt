@@ -1,18 +1,19 @@
 //! The signature of a file, with the number of each name.
 
-ghost use Rattle.std.specs.Prelude.{◌≡◌, ◌+◌, ◌^◌, ◌≤◌, length, IfOk, Ok, is_some};
+ghost use Rattle.std.specs.Prelude.{◌≡◌, ◌+◌, ◌^◌, ◌<◌, ◌≤◌, length, IfOk, Ok, is_some};
 ghost use Rattle.std.specs.Option.{option_map};
 ghost use Rattle.nxf_tree.specs.Counting.{has};
 ghost use Rattle.nxf_tree.specs.Signature.{same_sort, same_index, sort_names, index_names};
 ghost use Rattle.nxf_tree.specs.Occurrences.{declared};
 ghost use Rattle.nxf_tree.specs.SignatureOf.{firsts, same_symbol, signature_of, type_in};
 ghost use Rattle.nxf_tree.specs.Specification.{spec_of};
+ghost use Rattle.nxf_tree.specs.Weight.{file_weight};
 ghost use Rattle.logic_spec.specs.Asked.{asked_by};
 ghost use Rattle.nxf_names.specs.Places.{place, numbered_entry};
 
 use crate::places::{index_place, sort_place};
 use crate::signature::signature;
-use crate::tables::{Tables, is_small, tables_of};
+use crate::tables::{Tables, tables_of};
 use logic_spec::Spec;
 use nxf_base::{Memory, Text};
 use nxf_tree::{File, IndexName, Signature, SortName, SymbolEntry};
@@ -38,16 +39,15 @@ impl Model for Names {
 }
 
 impl Names {
-    /// The names of a file, over the signature that the definitions give it. There is no other error than want of memory.
+    /// The names of a file, over the signature that the definitions give it. There is no other error than want of memory:
+    /// a file has fewer names than its weight, so numbers of 32 bits are enough for them.
     pub fn of(alloc: Global, file: &File, spec: &Spec) -> Result<Names, Memory>
-        requires { spec_of file.now ≡ Ok (asked_by spec.now) }
+        requires spec { spec_of file.now ≡ Ok (asked_by spec.now) }
+        requires weight { file_weight file.now < 2 ^ 31 }
         ensures signature { IfOk result (λ n. n.signature ≡ signature_of (asked_by spec.now) file.now) }
         ensures declared { IfOk result (λ n. n.declared ≡ firsts same_symbol (declared file.now.statements)) }
     {
         let tables = tables_of(alloc, file, spec)?;
-        if !is_small(&tables) {
-            return Err(Memory);
-        }
         let signature = signature(alloc, &tables, spec)?;
         Ok(Names { tables, signature })
     }

@@ -1,6 +1,6 @@
 //! The tables of a file's names.
 
-ghost use Rattle.std.specs.Prelude.{◌≡◌, ◌↔◌, ◌+◌, ◌-◌, ◌^◌, ◌<◌, ◌||◌, length, IfOk, Ok, IsTrue};
+ghost use Rattle.std.specs.Prelude.{◌≡◌, ◌||◌, IfOk, Ok};
 ghost use Rattle.std.specs.List.{list_any};
 ghost use Rattle.nxf_tree.specs.SignatureOf.{mentions_individual};
 ghost use Rattle.nxf_names.specs.Tables.{uses_in};
@@ -48,14 +48,4 @@ pub fn tables_of(alloc: Global, file: &File, spec: &Spec) -> Result<Tables, Memo
         occurring,
         individual,
     })
-}
-
-/// Whether numbers of 32 bits are enough for the names.
-pub fn is_small(tables: &Tables) -> bool
-    ensures { IsTrue result ↔ (length tables.now.declarations.sorts.keys + length tables.now.occurring.symbols.entries + length tables.now.occurring.indexes.keys < 2 ^ 31 - 1) }
-{
-    let sorts = tables.declarations.sorts.len() as u128;
-    let symbols = tables.occurring.symbols.len() as u128;
-    let indexes = tables.occurring.indexes.len() as u128;
-    sorts + symbols + indexes < 0x7fff_ffff
 }

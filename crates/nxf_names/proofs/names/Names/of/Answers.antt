@@ -1,14 +1,18 @@
-use Rattle.std.proofs.Common.{refl, ap, ◌∙◌}
+use Rattle.std.proofs.Common.{refl, ap, ◌∙◌, arith}
 use Rattle.nxf_tree.specs.Signature.{sort_names, symbol_names, index_names}
 use Rattle.logic_spec.specs.Asked.{asked_by}
 use Rattle.nxf_names.specs.Places.{sort_list, index_list}
+use Rattle.nxf_names.proofs.FewNames.{fewer_names}
 use Rattle.nxf_names.proofs.TablesLaw.{sorts_named, symbols_named, indexes_named}
 use Rattle.nxf_names.proofs.names.Names.of.Goals as goal
+
+pub signature-requires : goal.signature-requires
+signature-requires c = omega (arith, fewer_names c.args.file.now (asked_by c.args.spec.now) c.in_ok-tables.tables c.requires.spec c.in_ok-tables.ensures, c.requires.weight)
 
 pub invariant_of-result : goal.invariant_of-result
 invariant_of-result c = record {
   sorts = ap sort_names c.in_ok-signature.ensures.sorts ∙ sorts_named _ (λ s. refl) (sort_list c.in_ok-tables.tables.individual c.in_ok-tables.tables.declarations.sorts.keys);
   symbols = ap symbol_names c.in_ok-signature.ensures.symbols ∙ symbols_named (sort_list c.in_ok-tables.tables.individual c.in_ok-tables.tables.declarations.sorts.keys) (asked_by c.args.spec.now) c.in_ok-tables.tables.occurring.symbols.entries;
   indexes = ap index_names c.in_ok-signature.ensures.indexes ∙ indexes_named _ (λ i. refl) (index_list c.in_ok-tables.tables.occurring.plain c.in_ok-tables.tables.occurring.indexes.keys);
-  small = c.if-not-is_small.ensures.0 refl;
+  small = omega (arith, fewer_names c.args.file.now (asked_by c.args.spec.now) c.in_ok-tables.tables c.requires.spec c.in_ok-tables.ensures, c.requires.weight);
 }
