@@ -9,3 +9,4 @@ pub mod TypedLaw
 pub mod CheckLemmas
 pub mod RegularNames
 pub mod WellFormedLaw
+pub mod DepthLaw

@@ -1,7 +1,7 @@
 //! The sort check of a file.
 
-ghost use Rattle.std.specs.Prelude.{◌≡◌, ◌-◌, ◌^◌, ◌<◌, ◌≤◌, min, max, length, MatchResult, IfOk, Ok, None, Some};
-ghost use Rattle.nxf_tree.specs.FileDepth.{statement_depth, statement_list_depth, file_depth};
+ghost use Rattle.std.specs.Prelude.{◌≡◌, ◌-◌, ◌^◌, ◌<◌, min, max, length, MatchResult, IfOk, Ok, None, Some};
+ghost use Rattle.nxf_tree.specs.FileDepth.{statement_depth, statement_list_depth};
 ghost use Rattle.nxf_tree.specs.Occurrences.{declared};
 ghost use Rattle.nxf_tree.specs.SignatureOf.{firsts, same_symbol, signature_of};
 ghost use Rattle.nxf_tree.specs.SortFaults.{sort_fault_of};
@@ -94,8 +94,7 @@ fn number_file(
 pub fn check(alloc: Global, file: &File, spec: &Spec) -> Result<Checked, SortError>
     requires spec { spec_of file.now ≡ Ok (asked_by spec.now) }
     requires regular { IsRegular (allowed_in profiles.Problem) file.now }
-    requires depth { file_depth file.now ≤ 2001 }
-    requires weight { file_weight file.now ≤ 67108864 }
+    requires weight { file_weight file.now < 2 ^ 31 }
     ensures judged { MatchResult result (λ c. sort_fault_of (asked_by spec.now) file.now ≡ None) (λ e. IsFileFault (sort_fault_of (asked_by spec.now) file.now) e) }
     ensures signature { IfOk result (λ c. c.signature ≡ signature_of (asked_by spec.now) file.now) }
     ensures well_formed { IfOk result (λ c. IsWellFormed c.signature) }

@@ -8,5 +8,8 @@ sort_roles-requires c = omega (arith, statements_fit c.args.file.now.statements,
 pub read_spec-requires : goal.read_spec-requires
 read_spec-requires c = omega (arith, statements_fit c.args.file.now.statements, c.requires.weight)
 
+pub check-requires-clause-weight : goal.check-requires-clause-weight
+check-requires-clause-weight c = omega (arith, c.requires.weight)
+
 pub returns-in-Ok-check : goal.returns-in-Ok-check
 returns-in-Ok-check c = reading c.args.file.now c.in-Ok.parts c.in-Ok.ensures.parts _ c.in-Ok-read_spec.ensures c.in-Ok-check.checked c.in-Ok-check.ensures.judged c.in-Ok-check.ensures.signature c.in-Ok-check.ensures.well_formed c.in-Ok-check.ensures.formulas

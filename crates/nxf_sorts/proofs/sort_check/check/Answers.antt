@@ -9,6 +9,7 @@ use Rattle.nxf_tree.specs.WellFormed.{IsWellFormed}
 use Rattle.nxf_meaning.proofs.ProfileLaw.{well-sorted}
 use Rattle.nxf_sorts.specs.Checked.{IsChecked}
 use Rattle.nxf_sorts.proofs.CheckLemmas.{all_sorted, depth_is, few_statements}
+use Rattle.nxf_sorts.proofs.DepthLaw.{statements_shallow}
 use Rattle.nxf_sorts.proofs.WellFormedLaw.{well_formed}
 use Rattle.nxf_sorts.proofs.sort_check.check.Goals as goal
 
@@ -26,7 +27,7 @@ invariant_of-result c =
     let sig = signature_of spec file in
     let is : c.into_signature.result ≡ sig = c.into_signature.ensures.value ∙ c.in-Ok.ensures.signature in
     let small = subst (λ (s : Signature). length s.sorts + length s.symbols + length s.indexes ≤ 2 ^ 31) is c.into_signature.ensures.small in
-    let deep : c.greatest_depth.result ≡ statement_list_depth file.statements = omega (arith, c.greatest_depth.ensures, ap statement_list_depth c.as_slice.ensures, c.requires.depth) in
+    let deep : c.greatest_depth.result ≡ statement_list_depth file.statements = omega (arith, c.greatest_depth.ensures, ap statement_list_depth c.as_slice.ensures, statements_shallow file.statements, c.requires.weight) in
     subst (λ s. IsChecked s c.in-Ok-number_file.formulas c.greatest_depth.result) (sym is) (record {
       well_formed = well_formed (allowed_in profiles.Problem) most spec file c.requires.spec c.requires.regular c.in-Ok-number_file.ensures.0 small;
       sorted = all_sorted sig 1 file.statements c.in-Ok-number_file.formulas (well-sorted spec file c.in-Ok-number_file.ensures.0) c.in-Ok-number_file.ensures.1;
