@@ -23,7 +23,7 @@ use std::alloc::Global;
 
 /// The signature of the printed problem: the worlds are a sort before the user's, and the tables are a relation for each
 /// index, existence for each sort that isn't constant, and the symbols, each with a world in front where it depends on
-/// worlds. Different things have different names.
+/// worlds. The sorts, the actual world and the tables all have different names.
 pub fn classical(alloc: Global, over: &Signature) -> Result<ClassicalSignature, Memory>
     requires { IsWellFormed over.now }
     ensures made { IfOk result (λ made. made ≡ meant.classical_signature_of over.now) }

@@ -8,12 +8,12 @@ use Rattle.nxf_tree.specs.Signature.{same_sort, same_index, sort_names, existenc
 use Rattle.nxf_tree.specs.Rows.{Rows, beside, under}
 use Rattle.nxf_tree.specs.Structures.{table_names}
 use Rattle.nxf_tree.specs.ClassicalSignature.{classical_signature_of}
-use Rattle.nxf_meaning.specs.Laws.{HasDifferentClassicalNames, Found, FoundLaw}
+use Rattle.nxf_meaning.specs.Laws.{Found, FoundLaw}
 use Rattle.nxf_meaning.proofs.Spelling.{same_text-refl, never, true-false}
 use Rattle.nxf_meaning.proofs.ProfileLaw.{same_text-sym, same_sort-sym, same_index-sym, same_index-refl}
 use Rattle.nxf_meaning.proofs.SortedFormulas.{same_sort-refl}
 use Rattle.nxf_meaning.proofs.GoodSymbols.{DifferentParts, parts-of-names}
-use Rattle.nxf_meaning.proofs.NamesDiffer.{names-differ, existence-sorts-different}
+use Rattle.nxf_meaning.proofs.NamesDiffer.{sorts-differ, tables-differ, existence-sorts-different}
 use Rattle.nxf_meaning.proofs.Types.{split}
 
 module _ {N A : Type 0} (same : N → N → Bool) (none : A) (reflexive : (n : N) → same n n ≡ true) (symmetric : (m n : N) → same m n ≡ same n m) where
@@ -40,12 +40,11 @@ module _ {N A : Type 0} (same : N → N → Bool) (none : A) (reflexive : (n : N
 pub found-law : FoundLaw
 found-law sig h =
     let d : DifferentParts sig = parts-of-names sig h in
-    let c : HasDifferentClassicalNames (classical_signature_of sig) = names-differ sig h in
     record {
       sizes = found same_sort 0 same_sort-refl same_sort-sym (sort_names sig.sorts) d.sorts;
       relations = found same_index [] same_index-refl same_index-sym (index_names sig.indexes) d.indexes;
       existing = found same_sort [] same_sort-refl same_sort-sym (existence_sorts sig.sorts) (existence-sorts-different sig.sorts d.sorts);
       symbols = found same_text (Rows []) same_text-refl same_text-sym (symbol_names sig.symbols) d.symbols;
-      classical_sizes = found same_sort 0 same_sort-refl same_sort-sym (classical_signature_of sig).sorts c.sorts;
-      tables = found same_text (Rows []) same_text-refl same_text-sym (table_names (classical_signature_of sig).tables) (split _ _ c.tables).1;
+      classical_sizes = found same_sort 0 same_sort-refl same_sort-sym (classical_signature_of sig).sorts (sorts-differ sig d);
+      tables = found same_text (Rows []) same_text-refl same_text-sym (table_names (classical_signature_of sig).tables) (split _ _ (tables-differ sig d)).1;
     }

@@ -36,6 +36,17 @@ module _ {A : Type 0} (same : A → A → Bool) where
       first true b k = k
       first false b k = refl
 
+  none-common : (xs ys : List A) → all_different same (xs ++ ys) ≡ true → list_all (λ x. not (has same x ys)) xs ≡ true
+  none-common [] ys h = refl
+  none-common (x ∷ xs) ys h =
+      let parts : (not (has same x (xs ++ ys)) ≡ true) × (all_different same (xs ++ ys) ≡ true) = and_parts _ _ h in
+      and_from _ _ (second (has same x xs) (has same x ys) (sym (ap not (has-append x xs ys)) ∙ parts.0)) (none-common xs ys parts.1)
+    where
+      second : (a b : Bool) → not (a || b) ≡ true → not b ≡ true
+      second true true k = k
+      second true false k = refl
+      second false b k = k
+
   -- lists of different things that have none in common are different together
   pub different-together : (xs ys : List A) → all_different same xs ≡ true → all_different same ys ≡ true → list_all (λ x. not (has same x ys)) xs ≡ true → all_different same (xs ++ ys) ≡ true
   different-together [] ys h k d = k
@@ -56,16 +67,22 @@ pub users-different : (fs : List (List ℕ)) → all_different same_sort (map Us
 users-different [] = refl
 users-different (f ∷ fs) = λ i. not (users-has f fs i) && users-different fs i
 
--- the three kinds of names, each by itself
+-- the three kinds of names, each by itself, and no symbol with the name of a sort
 pub record DifferentParts (sig : Signature) : Type 0 where
   pub sorts : all_different same_sort (sort_names sig.sorts) ≡ true
   pub symbols : all_different same_text (symbol_names sig.symbols) ≡ true
   pub indexes : all_different same_index (index_names sig.indexes) ≡ true
+  pub apart : list_all (λ f. not (has same_sort f (sort_names sig.sorts))) (map User (symbol_names sig.symbols)) ≡ true
 
 pub parts-of-names : (sig : Signature) → HasDifferentNames sig → DifferentParts sig
 parts-of-names sig h =
     let parts : (all_different same_sort (map User (symbol_names sig.symbols)) ≡ true) × (all_different same_sort (sort_names sig.sorts) ≡ true) = different-parts same_sort (map User (symbol_names sig.symbols)) (sort_names sig.sorts) h.names in
-    record { sorts = parts.1; symbols = sym (users-different (symbol_names sig.symbols)) ∙ parts.0; indexes = h.indexes }
+    record {
+      sorts = parts.1;
+      symbols = sym (users-different (symbol_names sig.symbols)) ∙ parts.0;
+      indexes = h.indexes;
+      apart = none-common same_sort (map User (symbol_names sig.symbols)) (sort_names sig.sorts) h.names;
+    }
 
 pub good-from : (sig : Signature) → HasDifferentNames sig → HasSortsInRange sig → HasGoodSymbols sig
 good-from sig h r = record { names = (parts-of-names sig h).symbols; numbers = r }
