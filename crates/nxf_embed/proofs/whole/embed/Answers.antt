@@ -7,7 +7,8 @@ use Rattle.nxf_tree.specs.Text.{is_printable}
 use Rattle.nxf_meaning.proofs.FileLaw.{file-law}
 use Rattle.nxf_meaning.proofs.Whole.{embedding_theorem, equal_worlds}
 use Rattle.nxf_sorts.specs.NamedForm.{formulas_of}
-use Rattle.nxf_embed.specs.Kept.{KeepsCountermodels, KeepsWorlds}
+use Rattle.nxf_embed.specs.Kept.{KeepsCountermodels, KeepsWorlds, HasOneConjectureAtMost}
+use Rattle.nxf_embed.proofs.OneConjecture.{one_conjecture}
 use Rattle.nxf_embed.proofs.Printable.{problem_is_printable}
 use Rattle.nxf_embed.proofs.Read.{file-chosen, file-sorted}
 use Rattle.nxf_embed.proofs.whole.embed.Goals as goal
@@ -42,3 +43,7 @@ returns-clause-keeps_countermodels c file read =
 pub returns-clause-equal_worlds : goal.returns-clause-equal_worlds
 returns-clause-equal_worlds c file read =
     subst (KeepsWorlds c.args.checked.now.signature file) (sym (returns-clause-written c file read)) (equal_worlds c.args.checked.now.signature file)
+
+pub returns-clause-one_conjecture : goal.returns-clause-one_conjecture
+returns-clause-one_conjecture c file read =
+    subst HasOneConjectureAtMost (sym (returns-clause-written c file read)) (one_conjecture c.args.checked.now.signature file c.args.parts.now read.parts)
