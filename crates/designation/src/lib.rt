@@ -8,6 +8,3 @@ mod writing;
 
 pub use faults::first_fault;
 pub use writing::axioms;
-
-#[cfg(test)]
-mod tests;

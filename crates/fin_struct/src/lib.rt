@@ -26,9 +26,6 @@ pub use kripke::Kripke;
 pub use limits::{ShapeError, cells};
 pub use structure::Structure;
 
-#[cfg(test)]
-mod tests;
-
 /// The lists of rows of a table say what its cells say, and nothing less; they stand in row-major order without repeats,
 /// so that equal lists are of equal tables.
 pub fn row_lists_law()

@@ -15,6 +15,3 @@ pub use gathering::{gather, gather_from};
 pub use laws::{one_gathering, one_reading, some_reading};
 pub use loading::{load_one, load_one_from};
 pub use roots::{Roots, load_first};
-
-#[cfg(test)]
-mod tests;

@@ -9,6 +9,3 @@ mod words;
 pub use nxf_tree::{Part, PartEntry, Scope};
 pub use parts::Parts;
 pub use sorting::{RoleError, sort_roles};
-
-#[cfg(test)]
-mod tests;

@@ -8,6 +8,3 @@ mod terms;
 
 pub use formulas::translate_closed;
 pub use place::Place;
-
-#[cfg(test)]
-mod tests;

@@ -15,6 +15,3 @@ pub use names::{
     user_variable, world_name, world_sort, world_variable,
 };
 pub use questions::{is_constant, is_constant_regime, is_flexible_designation, sort_at};
-
-#[cfg(test)]
-mod tests;

@@ -10,6 +10,3 @@ mod term;
 pub use laws::{printed_text_reads_back, regular_file_is_printed};
 pub use name::print_name;
 pub use statement::print_file;
-
-#[cfg(test)]
-mod tests;

@@ -1,5 +1,0 @@
-use Rattle.std.proofs.Common.{◌≡◌, take}
-use Rattle.frames.proofs.tests.list_of.Given as goal
-
-abbrev pub invariant-loop-scheme : goal.invariant-loop-scheme
-invariant-loop-scheme l = l.schemes ≡ take l.scheme-index l.chosen

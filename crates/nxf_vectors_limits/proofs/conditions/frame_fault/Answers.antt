@@ -1,4 +1,0 @@
-use Rattle.nxf_vectors_limits.proofs.conditions.frame_fault.Goals as goal
-
-pub first_fault-requires-clause-over : goal.first_fault-requires-clause-over
-first_fault-requires-clause-over c = c.relate_worlds.ensures.same _ c.in_ok-kripke.ensures.over
