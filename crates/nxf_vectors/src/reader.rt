@@ -244,9 +244,8 @@ impl Reader {
         let (Ok(byte), Ok(times)) = (u8::try_from(code), times.parse::<u32>()) else {
             return Ok(false);
         };
-        for _copy in 0..times {
-            self.text.push(byte)?;
-        }
+        let room = self.text.len().saturating_add(times as usize);
+        self.text.resize(room, byte)?;
         Ok(true)
     }
 }
