@@ -1,5 +1,5 @@
 -- How a result stands to the defined one.
-use Rattle.std.specs.Prelude.{◌≡◌, ◌⊎◌, Option, IfSome, Result, Err, IfErr}
+use Rattle.std.specs.Prelude.{◌≡◌, ◌⊎◌, ℕ, List, Option, IfSome, Result, Err, IfErr}
 use Rattle.nxf_base.specs.Files.{Files}
 use Rattle.nxf_include.specs.declared.gather_error.GatherError.{GatherError}
 use Rattle.nxf_include.specs.declared.gather_error.GatherError.TheVariants.{NoFile, ReadFault, TooLong, Memory}
@@ -12,6 +12,10 @@ IsOfLoading ReadFault = Unit {0}
 IsOfLoading (TooLong name) = Unit {0}
 IsOfLoading Memory = Unit {0}
 IsOfLoading _ = ⊥
+
+-- this holds where the refusal is that of an absent file
+abbrev pub OnNoFile : {A : Type 0} → Result A GatherError → Type 0 → Type 0
+OnNoFile result P = (name : List ℕ) → result ≡ Err (NoFile name) → P
 
 -- the files decide the refusal: it is no failure of a library and no want of memory
 abbrev pub IsRefusalOfFiles : GatherError → Type 0

@@ -1,14 +1,21 @@
 -- A list of libraries: its files, and what a load does to it.
-use Rattle.std.specs.Prelude.{◌⊎◌, List, [], ◌∷◌, ◌++◌, Option, None, Some}
-use Rattle.std.specs.FinMap as map
+use Rattle.std.specs.Prelude.{◌⊎◌, List, map, [], ◌∷◌, ◌++◌, Option, None, Some}
+use Rattle.std.specs.FinMap as files
+use Rattle.std.specs.declared.alloc.Global.{Global}
+use Rattle.std.specs.declared.dyn_box.DynBox.{DynBox}
 use Rattle.nxf_base.specs.Causes.{Rose}
 use Rattle.nxf_base.specs.Files.{Files}
 use Rattle.nxf_base.specs.Shelf as one
 use Rattle.nxf_base.specs.Shelf.{Shelf}
+use Rattle.nxf_include.specs.declared.roots.Roots.{Roots}
+
+-- What the libraries tell, in their order. A clause names what one in a box tells by `shelf` alone: `shelves_of shelf roots.now`.
+abbrev pub shelves_of : {X : Type 0} {F : X → Type 0} → (DynBox X Global F → Shelf) → Roots X F → List Shelf
+shelves_of shelf roots = map shelf roots.libraries.items
 
 -- two maps as one: the first has the say
 abbrev pub over : Files → Files → Files
-over first others = map.from_entries (map.entries first ++ map.entries others)
+over first others = files.from_entries (files.entries first ++ files.entries others)
 
 abbrev pub over_told : Option Files → Option Files → Option Files
 over_told (Some first) (Some others) = Some (over first others)
@@ -16,7 +23,7 @@ over_told _ _ = None
 
 -- The files of a list, where every library tells its own: each name has the bytes of the first library that has it.
 abbrev pub files_of : List Shelf → Option Files
-files_of [] = Some map.empty
+files_of [] = Some files.empty
 files_of (shelf ∷ shelves) = over_told shelf.files (files_of shelves)
 
 -- every library tells the files that it told, and no count fell

@@ -1,16 +1,16 @@
 //! A file with all that it includes.
 ghost use Rattle.std.specs.Prelude.{◌≡◌, ◌≤◌, ◌+◌, Err, IfOk, length, map};
 ghost use Rattle.nxf_tree.specs.Weight.{statement_list_weight};
-ghost use Rattle.nxf_include.specs.Roots.{files_of, Keeps, SomeFaultRose, EachMissRose};
+ghost use Rattle.nxf_include.specs.Roots.{files_of, shelves_of, Keeps, SomeFaultRose, EachMissRose};
 ghost use Rattle.nxf_include.specs.Gathered.{Visits, Gathers};
 ghost use Rattle.nxf_include.specs.Promises.{IsFine, AreFine};
-ghost use Rattle.nxf_include.specs.Refusals.{Meets};
+ghost use Rattle.nxf_include.specs.Refusals.{Meets, OnNoFile};
 
 use crate::gather_error::deep;
 use crate::reading::{Visited, enter};
 use crate::selection::{add, add_selected};
 use crate::{GatherError, Roots};
-use nxf_base::{BoxedLibrary, Library, List, Memory, Text};
+use nxf_base::{Library, List, Memory, Text};
 use nxf_tree::{File, Statement};
 use std::alloc::Global;
 
@@ -21,13 +21,11 @@ const LEVELS: u32 = 17;
 /// the answer is theirs by `Gathers`, or a read fault, or want of memory. Whatever they tell, a file is absent only where each
 /// library missed it, there is a read fault only where a library failed, and the file is fine.
 pub fn gather(alloc: Global, roots: &mut Roots, name: &Text) -> Result<File, GatherError>
-    ensures answers { Meets (files_of (map ⟦<BoxedLibrary as Library>⟧.shelf roots.old.libraries.items)) (λ files. Gathers files name.now) result }
+    ensures answers { Meets (files_of (shelves_of shelf roots.old)) (λ files. Gathers files name.now) result }
     ensures fine { IfOk result (λ file. IsFine file) }
-    ensures no_file { (missing : _) → result ≡ Err (GatherError.NoFile missing)
-        → EachMissRose (map ⟦<BoxedLibrary as Library>⟧.shelf roots.old.libraries.items) (map ⟦<BoxedLibrary as Library>⟧.shelf roots.new.libraries.items) }
-    ensures read_fault { result ≡ Err GatherError.ReadFault
-        → SomeFaultRose (map ⟦<BoxedLibrary as Library>⟧.shelf roots.old.libraries.items) (map ⟦<BoxedLibrary as Library>⟧.shelf roots.new.libraries.items) }
-    ensures keeps { Keeps (map ⟦<BoxedLibrary as Library>⟧.shelf roots.old.libraries.items) (map ⟦<BoxedLibrary as Library>⟧.shelf roots.new.libraries.items) }
+    ensures no_file { OnNoFile result (EachMissRose (shelves_of shelf roots.old) (shelves_of shelf roots.new)) }
+    ensures read_fault { result ≡ Err GatherError.ReadFault → SomeFaultRose (shelves_of shelf roots.old) (shelves_of shelf roots.new) }
+    ensures keeps { Keeps (shelves_of shelf roots.old) (shelves_of shelf roots.new) }
 {
     gather_from(alloc, &mut roots.libraries, name)
 }
@@ -40,7 +38,7 @@ pub fn gather_from<L: Library>(
 ) -> Result<File, GatherError>
     ensures answers { Meets (files_of (map L.shelf libraries.old)) (λ files. Gathers files name.now) result }
     ensures fine { IfOk result (λ file. IsFine file) }
-    ensures no_file { (missing : _) → result ≡ Err (GatherError.NoFile missing) → EachMissRose (map L.shelf libraries.old) (map L.shelf libraries.new) }
+    ensures no_file { OnNoFile result (EachMissRose (map L.shelf libraries.old) (map L.shelf libraries.new)) }
     ensures read_fault { result ≡ Err GatherError.ReadFault → SomeFaultRose (map L.shelf libraries.old) (map L.shelf libraries.new) }
     ensures keeps { Keeps (map L.shelf libraries.old) (map L.shelf libraries.new) }
 {
@@ -64,7 +62,7 @@ fn visit<L: Library>(
     ensures answers { Meets (files_of (map L.shelf libraries.old)) (λ files. Visits files levels sum name.now) result }
     ensures fine { IfOk result (λ whole. AreFine whole.statements) }
     ensures counts { IfOk result (λ whole. (whole.sum ≤ 67108864) × (sum + statement_list_weight whole.statements ≤ whole.sum)) }
-    ensures no_file { (missing : _) → result ≡ Err (GatherError.NoFile missing) → EachMissRose (map L.shelf libraries.old) (map L.shelf libraries.new) }
+    ensures no_file { OnNoFile result (EachMissRose (map L.shelf libraries.old) (map L.shelf libraries.new)) }
     ensures read_fault { result ≡ Err GatherError.ReadFault → SomeFaultRose (map L.shelf libraries.old) (map L.shelf libraries.new) }
     ensures keeps { Keeps (map L.shelf libraries.old) (map L.shelf libraries.new) }
 {

@@ -1,12 +1,12 @@
 //! The bytes of one file.
 ghost use Rattle.std.specs.Prelude.{◌≡◌, ◌≤◌, Err, IfOk, IfErr, IfSome, Ok, MatchResult, length, map};
-ghost use Rattle.nxf_include.specs.Roots.{files_of, Keeps, SomeFaultRose, EachMissRose};
+ghost use Rattle.nxf_include.specs.Roots.{files_of, shelves_of, Keeps, SomeFaultRose, EachMissRose};
 ghost use Rattle.nxf_include.specs.Loading.{loaded};
-ghost use Rattle.nxf_include.specs.Refusals.{IsOfLoading, Refuses};
+ghost use Rattle.nxf_include.specs.Refusals.{IsOfLoading, OnNoFile, Refuses};
 
 use crate::gather_error::{no_file, too_long};
 use crate::{GatherError, Roots, load_first};
-use nxf_base::{BoxedLibrary, Found, Library, LoadError, Text};
+use nxf_base::{Found, Library, LoadError, Text};
 use std::alloc::Global;
 
 /// The greatest length of one file.
@@ -15,17 +15,15 @@ const FILE_LIMIT: u64 = 16_777_216;
 /// The bytes of one file, at most 16,777,216. Where the libraries tell their files, the answer is theirs. Whatever they tell, a
 /// file is absent only where each library missed it, and there is a read fault only where a library failed.
 pub fn load_one(alloc: Global, roots: &mut Roots, name: &Text) -> Result<Vec<u8>, GatherError>
-    ensures bytes { let told = files_of (map ⟦<BoxedLibrary as Library>⟧.shelf roots.old.libraries.items) in
+    ensures bytes { let told = files_of (shelves_of shelf roots.old) in
         IfOk result (λ bytes. IfSome told (λ files. loaded files name.now ≡ Ok bytes.items)) }
-    ensures refusal { let told = files_of (map ⟦<BoxedLibrary as Library>⟧.shelf roots.old.libraries.items) in
+    ensures refusal { let told = files_of (shelves_of shelf roots.old) in
         IfErr result (Refuses told (λ files. loaded files name.now)) }
     ensures limit { IfOk result (λ bytes. length bytes.items ≤ 16777216) }
     ensures only { IfErr result IsOfLoading }
-    ensures no_file { (missing : _) → result ≡ Err (GatherError.NoFile missing)
-        → EachMissRose (map ⟦<BoxedLibrary as Library>⟧.shelf roots.old.libraries.items) (map ⟦<BoxedLibrary as Library>⟧.shelf roots.new.libraries.items) }
-    ensures read_fault { result ≡ Err GatherError.ReadFault
-        → SomeFaultRose (map ⟦<BoxedLibrary as Library>⟧.shelf roots.old.libraries.items) (map ⟦<BoxedLibrary as Library>⟧.shelf roots.new.libraries.items) }
-    ensures keeps { Keeps (map ⟦<BoxedLibrary as Library>⟧.shelf roots.old.libraries.items) (map ⟦<BoxedLibrary as Library>⟧.shelf roots.new.libraries.items) }
+    ensures no_file { OnNoFile result (EachMissRose (shelves_of shelf roots.old) (shelves_of shelf roots.new)) }
+    ensures read_fault { result ≡ Err GatherError.ReadFault → SomeFaultRose (shelves_of shelf roots.old) (shelves_of shelf roots.new) }
+    ensures keeps { Keeps (shelves_of shelf roots.old) (shelves_of shelf roots.new) }
 {
     load_one_from(alloc, &mut roots.libraries, name)
 }
@@ -41,7 +39,7 @@ pub fn load_one_from<L: Library>(
     ensures refusal { let told = files_of (map L.shelf libraries.old) in IfErr result (Refuses told (λ files. loaded files name.now)) }
     ensures limit { IfOk result (λ bytes. length bytes.items ≤ 16777216) }
     ensures only { IfErr result IsOfLoading }
-    ensures no_file { (missing : _) → result ≡ Err (GatherError.NoFile missing) → EachMissRose (map L.shelf libraries.old) (map L.shelf libraries.new) }
+    ensures no_file { OnNoFile result (EachMissRose (map L.shelf libraries.old) (map L.shelf libraries.new)) }
     ensures read_fault { result ≡ Err GatherError.ReadFault → SomeFaultRose (map L.shelf libraries.old) (map L.shelf libraries.new) }
     ensures keeps { Keeps (map L.shelf libraries.old) (map L.shelf libraries.new) }
 {

@@ -4,7 +4,7 @@ ghost use Rattle.nxf_tree.specs.Weight.{statement_list_weight};
 ghost use Rattle.nxf_include.specs.Roots.{files_of, Keeps, SomeFaultRose, EachMissRose};
 ghost use Rattle.nxf_include.specs.Gathered.{Reads, ReadsCounted, Enters};
 ghost use Rattle.nxf_include.specs.Promises.{AreRead};
-ghost use Rattle.nxf_include.specs.Refusals.{Meets};
+ghost use Rattle.nxf_include.specs.Refusals.{Meets, OnNoFile};
 
 use crate::gather_error::{not_lexed, not_read};
 use crate::{GatherError, load_one_from};
@@ -35,7 +35,7 @@ pub fn enter<L: Library>(
     ensures answers { Meets (files_of (map L.shelf libraries.old)) (λ files. Enters files sum name.now) result }
     ensures read { IfOk result (λ file. AreRead file.statements) }
     ensures counts { IfOk result (λ file. (file.sum ≤ 67108864) × (sum + statement_list_weight file.statements ≤ file.sum)) }
-    ensures no_file { (missing : _) → result ≡ Err (GatherError.NoFile missing) → EachMissRose (map L.shelf libraries.old) (map L.shelf libraries.new) }
+    ensures no_file { OnNoFile result (EachMissRose (map L.shelf libraries.old) (map L.shelf libraries.new)) }
     ensures read_fault { result ≡ Err GatherError.ReadFault → SomeFaultRose (map L.shelf libraries.old) (map L.shelf libraries.new) }
     ensures keeps { Keeps (map L.shelf libraries.old) (map L.shelf libraries.new) }
 {

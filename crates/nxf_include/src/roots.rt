@@ -1,12 +1,12 @@
 //! A list of libraries that the caller made, asked in order.
 ghost use Rattle.std.specs.Prelude.{◌≡◌, ◌↔◌, ℕ, ◌-◌, ◌<◌, ◌^◌, ◌++◌, [], ◌∷◌, length, map, take, slice_get, Some, OnOk, OnErr, IfErr, IsTrue, Ok, IsErrOf};
 ghost use Rattle.nxf_base.specs.Load.{Loads};
-ghost use Rattle.nxf_include.specs.Roots.{files_of, Keeps, SomeFaultRose, EachMissRose};
+ghost use Rattle.nxf_include.specs.Roots.{files_of, shelves_of, Keeps, SomeFaultRose, EachMissRose};
 
 use nxf_base::{BoxedLibrary, Found, Library, LoadError, Refused, Text};
 use std::alloc::Global;
 
-/// Libraries that the caller made, to be asked in order. Contracts see what each tells: `map ⟦<BoxedLibrary as Library>⟧.shelf roots.libraries.items`.
+/// Libraries that the caller made, to be asked in order. Contracts see what they tell as `shelves_of shelf roots.now`.
 #[derive(Drop)]
 pub struct Roots {
     pub libraries: Vec<BoxedLibrary>,
@@ -14,7 +14,7 @@ pub struct Roots {
 
 impl Roots {
     pub fn new(alloc: Global) -> Roots
-        ensures { map ⟦<BoxedLibrary as Library>⟧.shelf result.libraries.items ≡ [] }
+        ensures { result.libraries.items ≡ [] }
     {
         Roots {
             libraries: Vec::new(alloc),
@@ -22,10 +22,9 @@ impl Roots {
     }
 
     /// Adds a library that is asked after the others. Where no memory is found it is handed back.
-    pub fn push(&mut self, library: BoxedLibrary) -> Result<(), Refused<BoxedLibrary>>
-        ensures ok { OnOk result (map ⟦<BoxedLibrary as Library>⟧.shelf self.new.libraries.items
-            ≡ map ⟦<BoxedLibrary as Library>⟧.shelf self.old.libraries.items ++ ⟦<BoxedLibrary as Library>⟧.shelf library ∷ []) }
-        ensures err { OnErr result (map ⟦<BoxedLibrary as Library>⟧.shelf self.new.libraries.items ≡ map ⟦<BoxedLibrary as Library>⟧.shelf self.old.libraries.items) }
+    pub fn push(&mut self, library: Boxed) -> Result<(), Refused<Boxed>>
+        ensures ok { OnOk result (self.new.libraries.items ≡ self.old.libraries.items ++ library ∷ []) }
+        ensures err { OnErr result (self.new.libraries.items ≡ self.old.libraries.items) }
         ensures back { IfErr result (λ refused. refused.back ≡ library) }
     {
         match self.libraries.push(library) {
@@ -36,15 +35,14 @@ impl Roots {
 
     /// Drops the last library, where there is one.
     pub fn drop_last(&mut self) -> bool
-        ensures some { let before = map ⟦<BoxedLibrary as Library>⟧.shelf self.old.libraries.items in IsTrue result ↔ 0 < length before }
-        ensures left { let before = map ⟦<BoxedLibrary as Library>⟧.shelf self.old.libraries.items in
-            map ⟦<BoxedLibrary as Library>⟧.shelf self.new.libraries.items ≡ take (length before - 1) before }
+        ensures some { IsTrue result ↔ 0 < length self.old.libraries.items }
+        ensures left { let before = self.old.libraries.items in self.new.libraries.items ≡ take (length before - 1) before }
     {
         self.libraries.pop().is_some()
     }
 
     pub fn len(&self) -> usize
-        ensures { result ≡ length (map ⟦<BoxedLibrary as Library>⟧.shelf self.now.libraries.items) }
+        ensures { result ≡ length self.now.libraries.items }
     {
         self.libraries.len()
     }
@@ -52,28 +50,26 @@ impl Roots {
     /// Asks the libraries in order: the first that has the file, or fails, decides.
     pub fn load(&mut self, name: &Text, limit: u64, into: &mut Vec<u8>) -> Result<Found, LoadError>
         requires { limit < 2 ^ 32 }
-        ensures loads { Loads (files_of (map ⟦<BoxedLibrary as Library>⟧.shelf self.old.libraries.items)) name.now limit result into.old.items into.new.items }
-        ensures keeps { Keeps (map ⟦<BoxedLibrary as Library>⟧.shelf self.old.libraries.items) (map ⟦<BoxedLibrary as Library>⟧.shelf self.new.libraries.items) }
-        ensures fault { IsErrOf result LoadError.Fault
-            → SomeFaultRose (map ⟦<BoxedLibrary as Library>⟧.shelf self.old.libraries.items) (map ⟦<BoxedLibrary as Library>⟧.shelf self.new.libraries.items) }
-        ensures absent { result ≡ Ok Found.Absent
-            → EachMissRose (map ⟦<BoxedLibrary as Library>⟧.shelf self.old.libraries.items) (map ⟦<BoxedLibrary as Library>⟧.shelf self.new.libraries.items) }
+        ensures loads { Loads (files_of (shelves_of shelf self.old)) name.now limit result into.old.items into.new.items }
+        ensures keeps { Keeps (shelves_of shelf self.old) (shelves_of shelf self.new) }
+        ensures fault { IsErrOf result LoadError.Fault → SomeFaultRose (shelves_of shelf self.old) (shelves_of shelf self.new) }
+        ensures absent { result ≡ Ok Found.Absent → EachMissRose (shelves_of shelf self.old) (shelves_of shelf self.new) }
     {
         load_first(&mut self.libraries, name, limit, into)
     }
 
     /// How often one library has failed.
     pub fn faults(&self, at: usize) -> u64
-        requires { at < length (map ⟦<BoxedLibrary as Library>⟧.shelf self.now.libraries.items) }
-        ensures { slice_get (map (λ s. s.faults) (map ⟦<BoxedLibrary as Library>⟧.shelf self.now.libraries.items)) at ≡ Some result }
+        requires { at < length self.now.libraries.items }
+        ensures { slice_get (map (λ s. s.faults) (shelves_of shelf self.now)) at ≡ Some result }
     {
         faults_of(&self.libraries, at)
     }
 
     /// How often one library had no file.
     pub fn misses(&self, at: usize) -> u64
-        requires { at < length (map ⟦<BoxedLibrary as Library>⟧.shelf self.now.libraries.items) }
-        ensures { slice_get (map (λ s. s.misses) (map ⟦<BoxedLibrary as Library>⟧.shelf self.now.libraries.items)) at ≡ Some result }
+        requires { at < length self.now.libraries.items }
+        ensures { slice_get (map (λ s. s.misses) (shelves_of shelf self.now)) at ≡ Some result }
     {
         misses_of(&self.libraries, at)
     }
