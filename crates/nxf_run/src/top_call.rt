@@ -1,14 +1,14 @@
 //! The top call.
-ghost use Rattle.std.specs.Prelude.{◌≡◌, ℕ, List, Some, map};
-ghost use Rattle.nxf_base.specs.Exactly.{ExactlyOne};
+ghost use Rattle.std.specs.Prelude.{ℕ, List, Some};
 ghost use Rattle.nxf_base.specs.Files.{Files};
-ghost use Rattle.nxf_include.specs.Roots.{files_of};
+ghost use Rattle.nxf_include.specs.Steps.{ExactlyOne};
 ghost use Rattle.nxf_run.specs.Answer.{IsAnswer};
-ghost use Rattle.nxf_run.specs.Ending.{Follows, HasCause, MayEnd, Reports, Completes, Means};
+ghost use Rattle.nxf_run.specs.Ending.{Follows, HasCause, Reports, Completes, Means};
+ghost use Rattle.nxf_run.specs.Run.{ran, ran_on};
 
 use crate::output::{report, write_all};
 use crate::prepare::prepare;
-use nxf_base::{BoxedLibrary, Library, List, Sink, SinkError, Status, Text};
+use nxf_base::{Library, List, Sink, SinkError, Status, Text};
 use nxf_include::Roots;
 use std::alloc::Global;
 
@@ -23,19 +23,19 @@ pub fn run<O: Sink, E: Sink>(
     err: &mut E,
 ) -> Status
     // The status and the bytes of `out` are those of the answer.
-    ensures answers { Follows (files_of (map ⟦<BoxedLibrary as Library>⟧.shelf roots.old.libraries.items)) words.now result (O.held out.old) (O.held out.new) }
+    ensures answers { Follows (ran_on words.now shelf roots.old roots.new O.Sink out.old out.new E.Sink err.old err.new) result }
 
     // A status that came from outside has its cause there.
-    ensures causes { HasCause words.now result (map ⟦<BoxedLibrary as Library>⟧.shelf roots.old.libraries.items) (map ⟦<BoxedLibrary as Library>⟧.shelf roots.new.libraries.items) (O.faults out.old) (O.faults out.new) }
+    ensures causes { HasCause (ran_on words.now shelf roots.old roots.new O.Sink out.old out.new E.Sink err.old err.new) result }
 
     // A refusal is told to `err`.
-    ensures reports { Reports (MayEnd words.now (map ⟦<BoxedLibrary as Library>⟧.shelf roots.old.libraries.items) (map ⟦<BoxedLibrary as Library>⟧.shelf roots.new.libraries.items) (O.held out.old) (O.held out.new) (O.faults out.old) (O.faults out.new)) result (E.held err.old) (E.held err.new) (E.faults err.old) (E.faults err.new) }
+    ensures reports { Reports (ran_on words.now shelf roots.old roots.new O.Sink out.old out.new E.Sink err.old err.new) result }
 
     // Where there is a text and nothing failed, it is given.
-    ensures completes { Completes words.now result (map ⟦<BoxedLibrary as Library>⟧.shelf roots.old.libraries.items) (map ⟦<BoxedLibrary as Library>⟧.shelf roots.new.libraries.items) (O.faults out.old) (O.faults out.new) }
+    ensures completes { Completes (ran_on words.now shelf roots.old roots.new O.Sink out.old out.new E.Sink err.old err.new) result }
 
     // The text means what the file means: their countermodels correspond.
-    ensures means { result ≡ Status.Ok → Means (files_of (map ⟦<BoxedLibrary as Library>⟧.shelf roots.old.libraries.items)) words.now (O.held out.old) (O.held out.new) }
+    ensures means { Means (ran_on words.now shelf roots.old roots.new O.Sink out.old out.new E.Sink err.old err.new) result }
 {
     run_over(alloc, words, &mut roots.libraries, out, err)
 }
@@ -48,11 +48,11 @@ pub fn run_over<L: Library, O: Sink, E: Sink>(
     out: &mut O,
     err: &mut E,
 ) -> Status
-    ensures answers { Follows (files_of (map L.shelf libraries.old)) words.now result (O.held out.old) (O.held out.new) }
-    ensures causes { HasCause words.now result (map L.shelf libraries.old) (map L.shelf libraries.new) (O.faults out.old) (O.faults out.new) }
-    ensures reports { Reports (MayEnd words.now (map L.shelf libraries.old) (map L.shelf libraries.new) (O.held out.old) (O.held out.new) (O.faults out.old) (O.faults out.new)) result (E.held err.old) (E.held err.new) (E.faults err.old) (E.faults err.new) }
-    ensures completes { Completes words.now result (map L.shelf libraries.old) (map L.shelf libraries.new) (O.faults out.old) (O.faults out.new) }
-    ensures means { result ≡ Status.Ok → Means (files_of (map L.shelf libraries.old)) words.now (O.held out.old) (O.held out.new) }
+    ensures answers { Follows (ran words.now L.shelf libraries.old libraries.new O.Sink out.old out.new E.Sink err.old err.new) result }
+    ensures causes { HasCause (ran words.now L.shelf libraries.old libraries.new O.Sink out.old out.new E.Sink err.old err.new) result }
+    ensures reports { Reports (ran words.now L.shelf libraries.old libraries.new O.Sink out.old out.new E.Sink err.old err.new) result }
+    ensures completes { Completes (ran words.now L.shelf libraries.old libraries.new O.Sink out.old out.new E.Sink err.old err.new) result }
+    ensures means { Means (ran words.now L.shelf libraries.old libraries.new O.Sink out.old out.new E.Sink err.old err.new) result }
 {
     match prepare(alloc, words.as_slice(), libraries) {
         Ok(text) => match write_all(out, &text) {
