@@ -1,3 +1,6 @@
+ghost use Rattle.std.specs.Prelude.{IfOk};
+ghost use Rattle.nxf_devices.specs.Devices.{MayEndOverDevices};
+
 use crate::dir_library::DirLibrary;
 use crate::std_sink::{StdSink, Stream};
 use crate::stdin_library::StdinLibrary;
@@ -11,7 +14,9 @@ use std::env::VarError;
 /// Runs the program over the real devices: the words after its name; as libraries standard input, the working folder, and
 /// the folder that the variable `TPTP` names, in this order; and the two standard outputs. An error is want of memory
 /// before the run.
-pub fn start(rt: HostRuntime) -> Result<Status, Memory> {
+pub fn start(rt: HostRuntime) -> Result<Status, Memory>
+    ensures { IfOk result MayEndOverDevices }
+{
     let alloc = rt.alloc();
     let words = read_words(&rt, alloc)?;
     let mut roots = Roots::new(alloc);

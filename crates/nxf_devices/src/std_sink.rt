@@ -1,3 +1,5 @@
+ghost use Rattle.std.specs.Prelude.{◌≡◌};
+
 use nxf_base::{Sink, SinkError};
 use std::io::Write;
 
@@ -17,7 +19,9 @@ pub struct StdSink {
 }
 
 impl StdSink {
-    pub fn new(rt: HostRuntime, stream: Stream) -> Self {
+    pub fn new(rt: HostRuntime, stream: Stream) -> Self
+        ensures { result.faults ≡ 0 }
+    {
         StdSink {
             rt,
             stream,
