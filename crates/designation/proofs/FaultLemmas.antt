@@ -19,20 +19,20 @@ use Rattle.nxf_tree.specs.Structures.{kripke_model}
 use Rattle.nxf_tree.specs.WellFormed.{IsWellFormed, has_sorts_in_range}
 use Rattle.fin_struct.specs.declared.condition.Condition.TheVariants.{Local}
 use Rattle.fin_struct.specs.FirstFault.{meets_condition, meets_term, meets_term_at, terms_from}
-use Rattle.fin_struct.proofs.FirstFaultLemmas.{first_failing, first-holds, first-fails, drop-read}
-use Rattle.signature_parts.proofs.Places.{in_range-below, sort_at-place}
+use Rattle.structure_laws.proofs.FirstFaultLemmas.{first_failing, first-holds, first-fails, drop-read}
+use Rattle.classical_syntax.proofs.Places.{in_range-below, sort_at-place}
 use Rattle.fin_struct.specs.Places.{InRange}
 use Rattle.fin_struct.specs.Cells.{CellTable, cell, bound_of}
 use Rattle.fin_struct.specs.RowLists.{IsFilled}
-use Rattle.fin_struct.specs.KripkeView.{KripkeView, IsKripke, IsKripkeFor, exists_in, value_in, symbol_table, symbol_row, symbol_number, takes_world_in, kripke_structure}
-use Rattle.fin_struct.specs.KripkeLaws.{HasPlaces, ReadsByName}
-use Rattle.fin_struct.proofs.Counted.{all_same, all_pass}
+use Rattle.fin_struct.specs.KripkeTables.{KripkeTables, IsKripke, IsKripkeFor, exists_in, value_in, symbol_table, symbol_row, symbol_number, takes_world_in, kripke_structure}
+use Rattle.structure_laws.specs.KripkeLaws.{HasPlaces, ReadsByName}
+use Rattle.structure_laws.proofs.Counted.{all_same, all_pass}
 use Rattle.fin_struct.proofs.KripkeLemmas.{symbol_in}
-use Rattle.fin_struct.proofs.KripkeNames.{places-law}
+use Rattle.structure_laws.proofs.KripkeNames.{places-law}
 use Rattle.fin_struct.proofs.PlacesLemmas.{place_below}
-use Rattle.designation.specs.Listed.{IsListed}
-use Rattle.designation.proofs.Adding.{listed-at}
-use Rattle.designation.specs.RowTests.{rows_pass, value_exists, values_exist_in, HasFunction}
+use Rattle.condition_axioms.specs.steps.Listed.{IsListed}
+use Rattle.condition_axioms.proofs.AddingTerms.{listed-at}
+use Rattle.designation.specs.steps.RowTests.{rows_pass, value_exists_at, values_exist_in, HasFunction}
 
 -- a premise that no row changes goes in front
 each-true : (K : KripkeModel) (sorts : List SortName) → each_row K sorts (λ row. true) ≡ true
@@ -44,7 +44,7 @@ each-implies K sorts true p q = refl
 each-implies K sorts false p q = each-true K sorts
 
 -- what a model says of a sort is what the structure has under its number
-pub record SortReads (sig : Signature) (view : KripkeView) (s : ℕ) : Type 0 where
+pub record SortReads (sig : Signature) (view : KripkeTables) (s : ℕ) : Type 0 where
   pub size : (kripke_model sig (kripke_structure view)).size (sort_at sig.sorts s) ≡ size_at view.sizes s
   pub present : (w a : ℕ) → w < view.worlds → a < size_at view.sizes s → (kripke_model sig (kripke_structure view)).present (sort_at sig.sorts s) w a ≡ exists_in view s w a
 
@@ -53,7 +53,7 @@ some-at [] s below = absurd (omega arith)
 some-at (entry ∷ entries) zero below = (entry, refl)
 some-at (entry ∷ entries) (suc s) below = some-at entries s (omega arith)
 
-sort-reads : (sig : Signature) (view : KripkeView) (s : ℕ) → ReadsByName sig view (kripke_model sig (kripke_structure view)) → s < length sig.sorts → SortReads sig view s
+sort-reads : (sig : Signature) (view : KripkeTables) (s : ℕ) → ReadsByName sig view (kripke_model sig (kripke_structure view)) → s < length sig.sorts → SortReads sig view s
 sort-reads sig view s reads below =
     let K : KripkeModel = kripke_model sig (kripke_structure view) in
     let entry = (some-at sig.sorts s below).0 in
@@ -64,18 +64,18 @@ sort-reads sig view s reads below =
       present = λ w a in_worlds in_size. ap (λ (n : SortName). K.present n w a) name ∙ reads.present s entry w a at in_worlds in_size;
     }
 
-abbrev pub AllRead : Signature → KripkeView → List ℕ → Type 0
+abbrev pub AllRead : Signature → KripkeTables → List ℕ → Type 0
 AllRead sig view [] = Unit {0}
 AllRead sig view (s ∷ ss) = SortReads sig view s × AllRead sig view ss
 
-all-read : (sig : Signature) (view : KripkeView) (ss : List ℕ) → ReadsByName sig view (kripke_model sig (kripke_structure view)) → list_all (in_range sig.sorts) ss ≡ true → AllRead sig view ss
+all-read : (sig : Signature) (view : KripkeTables) (ss : List ℕ) → ReadsByName sig view (kripke_model sig (kripke_structure view)) → list_all (in_range sig.sorts) ss ≡ true → AllRead sig view ss
 all-read sig view [] reads h = tt
 all-read sig view (s ∷ ss) reads h =
     let parts = and_parts (in_range sig.sorts s) (list_all (in_range sig.sorts) ss) h in
     (sort-reads sig view s reads (in_range-below sig.sorts s parts.0), all-read sig view ss reads parts.1)
 
 -- row by row
-rows-named : (sig : Signature) (view : KripkeView) (w : ℕ) → w < view.worlds → (ss : List ℕ) → AllRead sig view ss → (q p : List ℕ → Bool) → ((row : List ℕ) → InRange (map (size_at view.sizes) ss) row → q row ≡ p row)
+rows-named : (sig : Signature) (view : KripkeTables) (w : ℕ) → w < view.worlds → (ss : List ℕ) → AllRead sig view ss → (q p : List ℕ → Bool) → ((row : List ℕ) → InRange (map (size_at view.sizes) ss) row → q row ≡ p row)
     → each_row (kripke_model sig (kripke_structure view)) (map (sort_at sig.sorts) ss) (λ row. implies (all_present (kripke_model sig (kripke_structure view)) w (map (sort_at sig.sorts) ss) row) (q row)) ≡ rows_pass view w ss p
 rows-named sig view w in_worlds [] read q p h = h [] tt
 rows-named sig view w in_worlds (s ∷ ss) read q p h =
@@ -91,13 +91,13 @@ row-under : (b : Bool) (sizes own row : List ℕ) (n w : ℕ) → own ≡ (if b 
 row-under true sizes own row n w e below h = subst (λ (xs : List ℕ). InRange xs (w ∷ row)) (sym e) (below, h)
 row-under false sizes own row n w e below h = subst (λ (xs : List ℕ). InRange xs row) (sym e) h
 
-pub row-in : (view : KripkeView) (f r w : ℕ) (sorts row : List ℕ) → HasFunction view f sorts r → w < view.worlds → InRange (map (size_at view.sizes) sorts) row → InRange (symbol_table view f).sizes (symbol_row view f w row)
+pub row-in : (view : KripkeTables) (f r w : ℕ) (sorts row : List ℕ) → HasFunction view f sorts r → w < view.worlds → InRange (map (size_at view.sizes) sorts) row → InRange (symbol_table view f).sizes (symbol_row view f w row)
 row-in view f r w sorts row h below = row-under (takes_world_in view f) (map (size_at view.sizes) sorts) (symbol_table view f).sizes row view.worlds w h.rows below
 
 cell-below : (table : CellTable) (row : List ℕ) → IsFilled table → InRange table.sizes row → cell table row < bound_of table.values
 cell-below table row h in_row = h.below _ (omega (arith, place_below table.sizes row in_row, h.count))
 
-value-below : (view : KripkeView) (f r w : ℕ) (sorts row : List ℕ) → IsKripke view → HasFunction view f sorts r → w < view.worlds → InRange (map (size_at view.sizes) sorts) row → value_in view f w row < size_at view.sizes r
+value-below : (view : KripkeTables) (f r w : ℕ) (sorts row : List ℕ) → IsKripke view → HasFunction view f sorts r → w < view.worlds → InRange (map (size_at view.sizes) sorts) row → value_in view f w row < size_at view.sizes r
 value-below view f r w sorts row kripke h below in_row =
     let filled : IsFilled (symbol_table view f) = kripke.filled (symbol_number view f) (symbol_in view f kripke h.symbol) in
     let small : value_in view f w row < bound_of (symbol_table view f).values = cell-below (symbol_table view f) (symbol_row view f w row) filled (row-in view f r w sorts row h below in_row) in
@@ -109,7 +109,7 @@ sorts-below sig (s ∷ ss) n e h zero below = omega (arith, in_range-below sig.s
 sorts-below sig (s ∷ ss) n e h (suc k) below = sorts-below sig ss n e (and_parts (in_range sig.sorts s) (list_all (in_range sig.sorts) ss) h).1 k (omega arith)
 
 -- a function of the signature is one of the structure
-has-function : (sig : Signature) (view : KripkeView) (f r : ℕ) (entry : SymbolEntry) → IsKripke view → IsKripkeFor sig view → slice_get sig.symbols f ≡ Some entry → f < length sig.symbols → length entry.args ≤ 1000 → entry.gives ≡ Some r → list_all (in_range sig.sorts) entry.args ≡ true → r < length sig.sorts
+has-function : (sig : Signature) (view : KripkeTables) (f r : ℕ) (entry : SymbolEntry) → IsKripke view → IsKripkeFor sig view → slice_get sig.symbols f ≡ Some entry → f < length sig.symbols → length entry.args ≤ 1000 → entry.gives ≡ Some r → list_all (in_range sig.sorts) entry.args ≡ true → r < length sig.sorts
     → HasFunction view f entry.args r
 has-function sig view f r entry kripke over at below few gives args in_sorts =
     let places : HasPlaces sig view = places-law sig view kripke over in
@@ -125,13 +125,13 @@ has-function sig view f r entry kripke over at below few gives args in_sorts =
     }
 
 -- the function's condition by name is that by number
-pub values-named : (sig : Signature) (view : KripkeView) (f r : ℕ) (entry : SymbolEntry) → ReadsByName sig view (kripke_model sig (kripke_structure view)) → IsKripke view → HasFunction view f entry.args r → slice_get sig.symbols f ≡ Some entry → entry.gives ≡ Some r → list_all (in_range sig.sorts) entry.args ≡ true → r < length sig.sorts
+pub values-named : (sig : Signature) (view : KripkeTables) (f r : ℕ) (entry : SymbolEntry) → ReadsByName sig view (kripke_model sig (kripke_structure view)) → IsKripke view → HasFunction view f entry.args r → slice_get sig.symbols f ≡ Some entry → entry.gives ≡ Some r → list_all (in_range sig.sorts) entry.args ≡ true → r < length sig.sorts
     → values_exist (kripke_model sig (kripke_structure view)) entry.name (argument_sorts sig entry) (sort_at sig.sorts r) ≡ values_exist_in view f entry.args r
 values-named sig view f r entry reads kripke h at gives args in_sorts =
     let K : KripkeModel = kripke_model sig (kripke_structure view) in
     let result : SortReads sig view r = sort-reads sig view r reads in_sorts in
     let some : IsSome entry.gives = ap is_some gives in
-    all_same view.worlds _ _ (λ w below. rows-named sig view w below entry.args (all-read sig view entry.args reads args) (λ row. K.present (sort_at sig.sorts r) w (K.value entry.name w row)) (value_exists view f r w) (λ row in_row.
+    all_same view.worlds _ _ (λ w below. rows-named sig view w below entry.args (all-read sig view entry.args reads args) (λ row. K.present (sort_at sig.sorts r) w (K.value entry.name w row)) (value_exists_at view f r w) (λ row in_row.
     ap (λ x. K.present (sort_at sig.sorts r) w x) (reads.value f entry w row at some (row-in view f r w entry.args row h below in_row))
     ∙ result.present w (value_in view f w row) below (value-below view f r w entry.args row kripke h below in_row)))
 
@@ -147,7 +147,7 @@ few-args entries f entry few at =
     let is : get_or entries f entry ≡ entry = sym (unwrap_or-slice_get entries f entry) ∙ ap (λ (o : Option SymbolEntry). unwrap_or o entry) at in
     subst (λ (e : SymbolEntry). length e.args ≤ 1000) is (few f entry (slice_get_within entries f entry at))
 
-pub listed-function : (sig : Signature) (view : KripkeView) (f r : ℕ) (entry : SymbolEntry) → IsWellFormed sig → IsKripke view → IsKripkeFor sig view → slice_get sig.symbols f ≡ Some entry → entry.gives ≡ Some r → HasFunction view f entry.args r
+pub listed-function : (sig : Signature) (view : KripkeTables) (f r : ℕ) (entry : SymbolEntry) → IsWellFormed sig → IsKripke view → IsKripkeFor sig view → slice_get sig.symbols f ≡ Some entry → entry.gives ≡ Some r → HasFunction view f entry.args r
 listed-function sig view f r entry formed kripke over at gives =
     let listed : IsListed sig entry = listed-at sig formed f entry at in
     has-function sig view f r entry kripke over at (slice_get_within sig.symbols f entry at) (few-args sig.symbols f entry formed.arguments at) gives (args-in sig entry listed.in_range) (in_range-below sig.sorts r (gives-in sig entry r listed.in_range gives))

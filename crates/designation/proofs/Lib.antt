@@ -1,4 +1,2 @@
-pub mod Adding
 pub mod FaultLemmas
 pub mod RowLemmas
-pub mod Rows

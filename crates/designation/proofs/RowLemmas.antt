@@ -5,8 +5,8 @@ use Rattle.std.proofs.lemmas.List.{drop_more, take_more, take_more_set, take-set
 use Rattle.nxf_tree.specs.Counting.{all_below, implies}
 use Rattle.nxf_tree.specs.Rows.{size_at}
 use Rattle.fin_struct.specs.Places.{InRange}
-use Rattle.fin_struct.specs.KripkeView.{KripkeView, exists_in}
-use Rattle.designation.specs.RowTests.{rows_pass, value_exists}
+use Rattle.fin_struct.specs.KripkeTables.{KripkeTables, exists_in}
+use Rattle.designation.specs.steps.RowTests.{rows_pass, value_exists_at}
 
 -- a row with one element more
 in_range-push : (sizes row : List ℕ) (n x : ℕ) → InRange sizes row → x < n → InRange (sizes ++ n ∷ []) (row ++ x ∷ [])
@@ -30,15 +30,15 @@ kept-set row after first place element kept e =
     sym (take-take place (place + 1) after (omega arith)) ∙ ap (take place) kept ∙ take-take place (place + 1) (set row place element) (omega arith) ∙ take-set row place element ∙ e
 
 -- the rows that begin with the front and an element
-pub rows-next : (view : KripkeView) (f r w : ℕ) (ss row first : List ℕ) (place element : ℕ) → place < length row → take place row ≡ take place first
-    → rows_pass view w ss (λ rest. value_exists view f r w (take (place + 1) (set row place element) ++ rest)) ≡ rows_pass view w ss (λ rest. value_exists view f r w (take place first ++ element ∷ rest))
+pub rows-next : (view : KripkeTables) (f r w : ℕ) (ss row first : List ℕ) (place element : ℕ) → place < length row → take place row ≡ take place first
+    → rows_pass view w ss (λ rest. value_exists_at view f r w (take (place + 1) (set row place element) ++ rest)) ≡ rows_pass view w ss (λ rest. value_exists_at view f r w (take place first ++ element ∷ rest))
 rows-next view f r w ss row first place element below kept =
     let front : (rest : List ℕ) → take (place + 1) (set row place element) ++ rest ≡ take place first ++ element ∷ rest =
     λ rest. ap (λ xs. xs ++ rest) (take_more_set row place element below ∙ ap (λ xs. xs ++ element ∷ []) kept) ∙ append_assoc (take place first) (element ∷ []) rest in
-    λ j. rows_pass view w ss (λ rest. value_exists view f r w (front rest j))
+    λ j. rows_pass view w ss (λ rest. value_exists_at view f r w (front rest j))
 
 -- the rows that begin with the front, by their next element
-pub rows-by : (view : KripkeView) (f r w : ℕ) (sorts first : List ℕ) (place : ℕ) → place < length sorts
-    → rows_pass view w (drop place sorts) (λ rest. value_exists view f r w (take place first ++ rest))
-    ≡ all_below (size_at view.sizes (get_or sorts place 0)) (λ a. implies (exists_in view (get_or sorts place 0) w a) (rows_pass view w (drop (place + 1) sorts) (λ rest. value_exists view f r w (take place first ++ a ∷ rest))))
-rows-by view f r w sorts first place below = ap (λ ss. rows_pass view w ss (λ rest. value_exists view f r w (take place first ++ rest))) (drop_more sorts place 0 below)
+pub rows-by : (view : KripkeTables) (f r w : ℕ) (sorts first : List ℕ) (place : ℕ) → place < length sorts
+    → rows_pass view w (drop place sorts) (λ rest. value_exists_at view f r w (take place first ++ rest))
+    ≡ all_below (size_at view.sizes (get_or sorts place 0)) (λ a. implies (exists_in view (get_or sorts place 0) w a) (rows_pass view w (drop (place + 1) sorts) (λ rest. value_exists_at view f r w (take place first ++ a ∷ rest))))
+rows-by view f r w sorts first place below = ap (λ ss. rows_pass view w ss (λ rest. value_exists_at view f r w (take place first ++ rest))) (drop_more sorts place 0 below)

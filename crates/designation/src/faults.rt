@@ -4,14 +4,14 @@ ghost use Rattle.nxf_tree.specs.Conditions.{MeetsTerms};
 ghost use Rattle.nxf_tree.specs.Conditions as conditions;
 ghost use Rattle.nxf_tree.specs.Structures.{kripke_model};
 ghost use Rattle.nxf_tree.specs.WellFormed.{IsWellFormed};
-ghost use Rattle.fin_struct.specs.FirstFault.{IsFirstFailing, meets_condition, term_conditions};
+ghost use Rattle.fin_struct.specs.FirstFault.{meets_in_tables, IsFirstFailing, term_conditions};
 ghost use Rattle.fin_struct.specs.FirstFault as meant;
-ghost use Rattle.fin_struct.specs.KripkeView.{IsKripkeFor, kripke_structure};
+ghost use Rattle.fin_struct.specs.KripkeTables.{IsKripkeFor, kripke_structure};
 
 use crate::values::values_exist;
+use classical_syntax::is_constant;
 use fin_struct::{Condition, Kripke};
 use nxf_tree::{Locality, Signature, SymbolEntry};
-use signature_parts::is_constant;
 
 /// The first local function, by number, whose value for some arguments that exist at a world doesn't exist there, where the
 /// sort of its values isn't constant. There is none exactly where all local functions meet this condition. It takes no
@@ -19,7 +19,7 @@ use signature_parts::is_constant;
 pub fn first_fault(over: &Signature, kripke: &Kripke) -> Option<Condition>
     requires well_formed { IsWellFormed over.now }
     requires over { IsKripkeFor over.now kripke.now }
-    ensures first { IsFirstFailing (meets_condition over.now (kripke_model over.now (kripke_structure kripke.now))) (term_conditions over.now) result }
+    ensures first { IsFirstFailing (meets_in_tables over.now kripke.now) (term_conditions over.now) result }
     ensures none { (result ≡ None) ↔ MeetsTerms over.now (kripke_structure kripke.now) }
 {
     for (place, symbol) in over.symbols.as_slice().iter().enumerate() {

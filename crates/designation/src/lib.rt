@@ -2,9 +2,7 @@
 #![tactic(auto)]
 
 mod faults;
-mod parts;
 mod values;
-mod writing;
 
+pub use condition_axioms::designation::axioms;
 pub use faults::first_fault;
-pub use writing::axioms;

@@ -2,9 +2,9 @@
 //! room on the stack, element by element, so that elements that don't exist are passed over with all rows that begin so.
 ghost use Rattle.std.specs.Prelude.{◌≡◌, ◌<◌, ◌≤◌, ◌++◌, Some, map, length, take, drop};
 ghost use Rattle.nxf_tree.specs.Rows.{size_at};
-ghost use Rattle.fin_struct.specs.KripkeView.{symbol_table, symbol_row};
+ghost use Rattle.fin_struct.specs.KripkeTables.{symbol_table, symbol_row};
 ghost use Rattle.fin_struct.specs.Places.{InRange};
-ghost use Rattle.designation.specs.RowTests as tests;
+ghost use Rattle.designation.specs.steps.RowTests as tests;
 
 use fin_struct::Kripke;
 
@@ -42,7 +42,7 @@ fn rows_pass(
     requires place_in { place ≤ length sorts.now }
     requires room { length row.old ≡ length sorts.now }
     requires begun { InRange (map (size_at kripke.now.sizes) (take place sorts.now)) (take place row.old) }
-    ensures passes { result ≡ tests.rows_pass kripke.now world (drop place sorts.now) (λ rest. tests.value_exists kripke.now symbol gives world (take place row.old ++ rest)) }
+    ensures passes { result ≡ tests.rows_pass kripke.now world (drop place sorts.now) (λ rest. tests.value_exists_at kripke.now symbol gives world (take place row.old ++ rest)) }
     ensures kept { take place row.new ≡ take place row.old }
 {
     if place == sorts.len() {
@@ -67,7 +67,7 @@ fn value_exists(kripke: &Kripke, symbol: u32, gives: u32, world: u32, row: &[u32
     requires world_in { world < kripke.now.worlds }
     requires function { (symbol_table kripke.now symbol).values ≡ Some (size_at kripke.now.sizes gives) }
     requires row_in { InRange (symbol_table kripke.now symbol).sizes (symbol_row kripke.now symbol world row.now) }
-    ensures { result ≡ tests.value_exists kripke.now symbol gives world row.now }
+    ensures { result ≡ tests.value_exists_at kripke.now symbol gives world row.now }
 {
     let value = kripke.value(symbol, world, row);
     kripke.exists(gives, world, value)

@@ -1,2 +1,1 @@
-pub mod SortAxioms
-pub mod Steps
+pub mod steps

@@ -4,8 +4,8 @@ ghost use Rattle.std.specs.Prelude.{◌≡◌, ◌<◌, length};
 ghost use Rattle.nxf_tree.specs.Counting.{any_below};
 ghost use Rattle.nxf_tree.specs.Conditions as meant;
 ghost use Rattle.nxf_tree.specs.Rows.{size_at};
-ghost use Rattle.fin_struct.specs.KripkeView.{exists_in};
-ghost use Rattle.domains.specs.Steps as steps;
+ghost use Rattle.fin_struct.specs.KripkeTables.{exists_in};
+ghost use Rattle.domains.specs.steps.WorldTests as steps;
 
 use fin_struct::Kripke;
 use nxf_tree::Regime;

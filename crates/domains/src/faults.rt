@@ -2,11 +2,10 @@
 ghost use Rattle.std.specs.Prelude.{◌≡◌, ◌↔◌, ◌<◌, ◌≤◌, [], ◌∷◌, length, None, not};
 ghost use Rattle.std.specs.List.{find};
 ghost use Rattle.nxf_tree.specs.Conditions.{MeetsDomains};
-ghost use Rattle.nxf_tree.specs.Structures.{kripke_model};
 ghost use Rattle.nxf_tree.specs.WellFormed.{IsWellFormed};
-ghost use Rattle.fin_struct.specs.FirstFault.{IsFirstFailing, meets_condition, domain_conditions, sort_conditions, monotone_from};
-ghost use Rattle.fin_struct.specs.KripkeView.{IsKripkeFor, kripke_structure};
-ghost use Rattle.domains.specs.Steps.{meets_in};
+ghost use Rattle.fin_struct.specs.FirstFault.{meets_in_tables, IsFirstFailing, domain_conditions, sort_conditions, monotone_from};
+ghost use Rattle.fin_struct.specs.KripkeTables.{IsKripkeFor, kripke_structure};
+ghost use Rattle.domains.specs.steps.WorldTests.{meets_in};
 
 use crate::existence::{everyone_exists, goes_along, someone_exists};
 use fin_struct::{Condition, Kripke};
@@ -19,7 +18,7 @@ use nxf_tree::{IndexEntry, Regime, Signature};
 pub fn first_fault(over: &Signature, kripke: &Kripke) -> Option<Condition>
     requires well_formed { IsWellFormed over.now }
     requires over { IsKripkeFor over.now kripke.now }
-    ensures first { IsFirstFailing (meets_condition over.now (kripke_model over.now (kripke_structure kripke.now))) (domain_conditions over.now) result }
+    ensures first { IsFirstFailing (meets_in_tables over.now kripke.now) (domain_conditions over.now) result }
     ensures none { (result ≡ None) ↔ MeetsDomains over.now (kripke_structure kripke.now) }
 {
     let worlds = kripke.worlds();

@@ -4,8 +4,6 @@
 
 mod existence;
 mod faults;
-mod sorts;
-mod writing;
 
+pub use condition_axioms::domains::axioms;
 pub use faults::first_fault;
-pub use writing::axioms;

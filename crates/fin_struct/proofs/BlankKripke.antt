@@ -19,10 +19,10 @@ use Rattle.fin_struct.specs.declared.grid.GridShape.{GridShape}
 use Rattle.fin_struct.specs.Cells.{CellTable, no_table, table_at, grid_shape, blank_tables, total_rows, AllPositive}
 use Rattle.fin_struct.specs.RowLists.{shape_of, shapes_of, blanks, AreFilled}
 use Rattle.fin_struct.specs.Limits.{cells_in, cells_of, IsWithin}
-use Rattle.fin_struct.specs.KripkeView.{IsKripke, IsKripkeFor, AreNumbered, pairs_shape, numbers_from, kripke_shapes, with_tables, blank_kripke, others_of}
+use Rattle.fin_struct.specs.KripkeTables.{IsKripke, IsKripkeFor, AreNumbered, pairs_shape, numbers_from, kripke_shapes, with_tables, blank_kripke, others_of}
 use Rattle.fin_struct.proofs.StructureLemmas.{Positive, positive-classical, all_positive, total_cells, blanks_made, shapes_blank, blanks_filled}
 use Rattle.fin_struct.proofs.ClassicalSorts.{has-sorts}
-use Rattle.fin_struct.proofs.KripkeTables.{existence-count}
+use Rattle.fin_struct.proofs.KripkeTableLemmas.{existence-count}
 
 -- the tables of the classical signature have the shapes of those of the Kripke structure
 relations-there : (n : ℕ) (ns : List ℕ) (entries : List IndexEntry) → table_shapes (n ∷ ns) (relation_entries entries) ≡ relation_shapes n entries
@@ -67,10 +67,6 @@ classical-shapes sig n ns =
 pub classical-cells : (sig : Signature) (sizes : List ℕ) → AreSizes (classical_signature_of sig).sorts sizes → cells_of (classical_signature_of sig) sizes ≡ min (cells_in (kripke_shapes sig (size_at sizes 0) (others_of sizes))) 18446744073709551615
 classical-cells sig [] h = absurd h
 classical-cells sig (n ∷ ns) h = ap (λ (shapes : List Shape). min (cells_in shapes) 18446744073709551615) (classical-shapes sig n ns)
-
-pub first-and-others : (sig : Signature) (sizes : List ℕ) → AreSizes (classical_signature_of sig).sorts sizes → AreSizes (classical_signature_of sig).sorts (size_at sizes 0 ∷ others_of sizes)
-first-and-others sig [] h = absurd h
-first-and-others sig (n ∷ ns) h = h
 
 pub sizes-under : {A B : Type 0} (f : A → B) (xs : List A) (ns : List ℕ) → AreSizes (map f xs) ns → AreSizes xs ns
 sizes-under f [] [] h = tt

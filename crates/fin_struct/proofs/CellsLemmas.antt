@@ -85,19 +85,9 @@ bounded_set (shape ∷ shapes) cells (suc t) p v h below small b =
     let e : R + S + p ≡ R + (S + p) = omega arith in
     (rw (e, drop-set-add R cells (S + p) v) (unwritten cells R (bound_of shape.values) (S + p) v b.0, bounded_set shapes (drop R cells) t p v (omega arith) below small b.1))
 
--- what a read of shape t has as its sizes
-pub sizes_read : (shapes : List GridShape) (t : ℕ) (s : GridShape) (xs : List ℕ) → t < length shapes → s ≡ get_or shapes t s → xs ≡ s.sizes.items → xs ≡ sizes_at shapes t
-sizes_read shapes t s xs below is value = value ∙ ap (λ (x : GridShape). x.sizes.items) is ∙ sizes_at-read shapes t s below
-
 -- what a read of start t gives
 pub start_read : (shapes : List GridShape) (starts : List ℕ) (t : ℕ) → t < length shapes → starts ≡ starts_of 0 shapes → get_or starts t 0 ≡ start_of shapes t
 start_read shapes starts t below kept = ap (λ (xs : List ℕ). get_or xs t 0) kept ∙ starts_of-at 0 shapes t below ∙ (let e : 0 + start_of shapes t ≡ start_of shapes t = omega arith in e)
-
--- what a read of the flat list is, in table t
-pub cell_read : (shapes : List GridShape) (cells : List ℕ) (t : ℕ) (row : List ℕ) → t < length shapes → place (sizes_at shapes t) row < rows_count (sizes_at shapes t) → get_or cells (start_of shapes t + place (sizes_at shapes t) row) 0 ≡ cell (table_at (tables_of shapes cells) t) row
-cell_read shapes cells t row below in_table =
-    let e = tables_of-at shapes cells t below in
-    (rw (e, get_or-take (rows_count (sizes_at shapes t)) (drop (start_of shapes t) cells) (place (sizes_at shapes t) row) 0 in_table, get_or-drop) refl)
 
 -- a caller's table t, as the fields have it
 pub record Seen (shapes : List GridShape) (cells : List ℕ) (tables : List CellTable) (t : ℕ) : Type 0 where

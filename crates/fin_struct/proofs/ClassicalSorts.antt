@@ -14,9 +14,9 @@ use Rattle.nxf_tree.specs.Signature.{constant_regime, sort_names}
 use Rattle.nxf_tree.specs.Sorting.{gives_in_range}
 use Rattle.nxf_tree.specs.WellFormed.{has_sorts_in_range}
 use Rattle.nxf_tree.specs.ClassicalSignature.{classical_signature_of, relation_entries, existence_entries, symbol_entries}
-use Rattle.nxf_meaning.proofs.Types.{split}
-use Rattle.signature_parts.proofs.Places.{in_range-below}
-use Rattle.fin_struct.specs.StructureView.{GivesBelow, HasSortsLaw}
+use Rattle.name_laws.proofs.Types.{split}
+use Rattle.classical_syntax.proofs.Places.{in_range-below}
+use Rattle.fin_struct.specs.StructureTables.{GivesBelow, HasSortsLaw}
 
 -- each function's values are of one of the first n sorts
 abbrev AllGive : ℕ → List TableEntry → Type 0

@@ -1,15 +1,8 @@
 pub mod BlankKripke
 pub mod CellsLemmas
 pub mod ClassicalSorts
-pub mod CorrespondenceLemmas
-pub mod Counted
-pub mod EqualStructures
-pub mod FirstFaultLemmas
 pub mod KripkeLemmas
-pub mod KripkeLists
-pub mod KripkeNames
-pub mod KripkeTables
-pub mod KripkeWritesLemmas
+pub mod KripkeTableLemmas
 pub mod LimitsLemmas
 pub mod PlacesLemmas
 pub mod RowListsLemmas

@@ -1,11 +1,8 @@
 -- Sizes of sorts, and sums of products that stop at a number.
 use Rattle.std.proofs.Common.{◌≡◌, ℕ, zero, suc, ◌+◌, ◌*◌, ◌<◌, ◌≤◌, List, [], ◌∷◌, map, length, min, drop, get_or, refl, arith}
-use Rattle.std.proofs.lemmas.List.{drop_more, get_or-map, length-map}
-use Rattle.nxf_tree.specs.declared.tree.TableEntry.{TableEntry}
+use Rattle.std.proofs.lemmas.List.{get_or-map, length-map}
 use Rattle.nxf_tree.specs.Rows.{size_at}
-use Rattle.nxf_tree.specs.Structures.{table_shapes}
 use Rattle.fin_struct.specs.Places.{rows_count}
-use Rattle.fin_struct.specs.Limits.{cells_in}
 use Rattle.fin_struct.proofs.PlacesLemmas.{count_step}
 
 pub size_at-read : (sizes : List ℕ) (k : ℕ) → get_or sizes k 0 ≡ size_at sizes k
@@ -24,9 +21,3 @@ pub rows_step : (sizes args : List ℕ) (i n m all : ℕ) → i < length args �
 rows_step sizes args i n m all below e inv =
     let at = get_or-map (size_at sizes) args i 0 0 below in
     count_step (map (size_at sizes) args) i n m all (omega (arith, length-map args (size_at sizes))) (rw at e) inv
-
--- one more table adds its rows, up to the greatest number
-pub total_step : (sizes : List ℕ) (tables : List TableEntry) (i n m r : ℕ) (d : TableEntry) (all : ℕ) → i < length tables → r ≡ min (rows_count (map (size_at sizes) (get_or tables i d).args)) 18446744073709551615 → m ≡ min (n + r) 18446744073709551615 → n ≤ 18446744073709551615 → min (n + cells_in (table_shapes sizes (drop i tables))) 18446744073709551615 ≡ all → min (m + cells_in (table_shapes sizes (drop (i + 1) tables))) 18446744073709551615 ≡ all
-total_step sizes tables i n m r d all below er em small inv =
-    let inv2 = rw (drop_more tables i d below) at inv in
-    omega (arith, er, em, inv2)

@@ -5,7 +5,7 @@ use Rattle.std.proofs.lemmas.Bool.{cases_Bool, cases_lt}
 use Rattle.std.proofs.lemmas.List.{same_lists, length-append, length-map, get_or-map, get_or_append_left, get_or-append-add, get_or-append_right}
 use Rattle.nxf_tree.specs.Names.{same_text}
 use Rattle.nxf_tree.specs.Rows.{Table, Shape, numbers_below, in_front, all_rows, has_row, those_in, value_of_row, beside, AllBelow, IsTableOf}
-use Rattle.nxf_meaning.proofs.Spelling.{same_text-refl, same_text-true, never}
+use Rattle.name_laws.proofs.Spelling.{same_text-refl, same_text-true, never}
 use Rattle.fin_struct.specs.Places.{rows_count, InRange, place}
 use Rattle.fin_struct.specs.Cells.{CellTable, bound_of, cell}
 use Rattle.fin_struct.specs.RowLists.{marked, true_rows, rows_of, listed, entry, IsFilled, ListsTell, ListsFit, ListsDetermine}

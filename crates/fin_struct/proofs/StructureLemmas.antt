@@ -13,7 +13,7 @@ use Rattle.fin_struct.specs.Places.{rows_count, place, InRange}
 use Rattle.fin_struct.specs.Cells.{CellTable, bound_of, grid_shape, no_table, cell, with_cell, table_at, total_rows, shape_rows, blank_tables, AllPositive}
 use Rattle.fin_struct.specs.RowLists.{entry, listed, shape_of, IsFilled, AreFilled, shapes_of, blank, blanks}
 use Rattle.fin_struct.specs.Limits.{cells_in, cells_of, IsWithin}
-use Rattle.fin_struct.specs.StructureView.{StructureView, IsStructure, IsFor, GivesBelow, HasSorts, blank_structure, StructureLaw}
+use Rattle.fin_struct.specs.StructureTables.{StructureTables, IsStructure, IsFor, GivesBelow, HasSorts, blank_structure, StructureLaw}
 use Rattle.fin_struct.proofs.RowListsLemmas.{lists-fit, lists-tell}
 
 pub filled_tail : (table : CellTable) (tables : List CellTable) → AreFilled (table ∷ tables) → AreFilled tables
@@ -36,12 +36,6 @@ size_positive [] sizes k h below = absurd (omega arith)
 size_positive (sort ∷ sorts) [] k h below = absurd h
 size_positive (sort ∷ sorts) (size ∷ sizes) zero h below = h.0
 size_positive (sort ∷ sorts) (size ∷ sizes) (suc k) h below = size_positive sorts sizes k h.1 (omega arith)
-
-pub sizes_length : {A : Type 0} (sorts : List A) (sizes : List ℕ) → AreSizes sorts sizes → length sizes ≡ length sorts
-sizes_length [] [] h = refl
-sizes_length [] (size ∷ sizes) h = absurd h
-sizes_length (sort ∷ sorts) [] h = absurd h
-sizes_length (sort ∷ sorts) (size ∷ sizes) h = ap suc (sizes_length sorts sizes h.1)
 
 -- each shape has room for the number 0
 abbrev pub Positive : List Shape → Type 0
@@ -120,13 +114,13 @@ read_listed tables others t row v e f below h read =
     let read2 = rw e at read in
     read2 ∙ sym (lists-tell (table_at others t) row (f2 t below) h)
 
-abbrev pub structure_view : ℕ → List ℕ → List CellTable → StructureView
+abbrev pub structure_view : ℕ → List ℕ → List CellTable → StructureTables
 structure_view actual sizes tables = record { actual = actual; sizes = sizes; tables = tables }
 
 -- a structure stays one where a cell is written
-pub written_structure : (actual : ℕ) (sizes : List ℕ) (tables new : List CellTable) (now : StructureView) (t : ℕ) (row : List ℕ) (v : ℕ) → IsStructure (structure_view actual sizes tables) → structure_view actual sizes tables ≡ now → t < length now.tables → v < bound_of (table_at now.tables t).values → new ≡ set tables t (with_cell (table_at tables t) row v) → IsStructure (structure_view actual sizes new)
+pub written_structure : (actual : ℕ) (sizes : List ℕ) (tables new : List CellTable) (now : StructureTables) (t : ℕ) (row : List ℕ) (v : ℕ) → IsStructure (structure_view actual sizes tables) → structure_view actual sizes tables ≡ now → t < length now.tables → v < bound_of (table_at now.tables t).values → new ≡ set tables t (with_cell (table_at tables t) row v) → IsStructure (structure_view actual sizes new)
 written_structure actual sizes tables new now t row v s view_is below small e =
-    let back : now.tables ≡ tables = sym (ap (λ (view : StructureView). view.tables) view_is) in
+    let back : now.tables ≡ tables = sym (ap (λ (view : StructureTables). view.tables) view_is) in
     let below2 = rw back at below in
     let small2 = rw back at small in
     let shapes : shapes_of new ≡ shapes_of tables = ap shapes_of e ∙ written_shapes_of tables t row v in
@@ -137,7 +131,7 @@ written_structure actual sizes tables new now t row v s view_is below small e =
     }
 
 -- the structure with all cells 0
-pub blank_fits : (csig : ClassicalSignature) (sizes : List ℕ) (view : StructureView) → view ≡ blank_structure csig sizes → HasSorts csig → AreSizes csig.sorts sizes → IsWithin (size_at sizes 0) (cells_of csig sizes) → IsStructure view
+pub blank_fits : (csig : ClassicalSignature) (sizes : List ℕ) (view : StructureTables) → view ≡ blank_structure csig sizes → HasSorts csig → AreSizes csig.sorts sizes → IsWithin (size_at sizes 0) (cells_of csig sizes) → IsStructure view
 blank_fits csig sizes view e has h within =
     let shapes = shapes_blank (table_shapes sizes csig.tables) in
     let few : cells_in (table_shapes sizes csig.tables) ≤ 4194304 = omega (arith, within.few_cells) in
@@ -149,7 +143,7 @@ blank_fits csig sizes view e has h within =
     } in
     (rw e made)
 
-pub blank_is_for : (csig : ClassicalSignature) (sizes : List ℕ) (view : StructureView) → view ≡ blank_structure csig sizes → AreSizes csig.sorts sizes → IsFor csig view
+pub blank_is_for : (csig : ClassicalSignature) (sizes : List ℕ) (view : StructureTables) → view ≡ blank_structure csig sizes → AreSizes csig.sorts sizes → IsFor csig view
 blank_is_for csig sizes view e h =
     let made : IsFor csig (blank_structure csig sizes) = record { sorts = h; shapes = shapes_blank (table_shapes sizes csig.tables) } in
     (rw e made)

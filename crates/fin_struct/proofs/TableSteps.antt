@@ -3,14 +3,14 @@ use Rattle.std.proofs.Common.{◌≡◌, ℕ, zero, suc, ◌+◌, ◌<◌, Bool,
 use Rattle.std.specs.Prelude.{map, if◌then◌else◌, None}
 use Rattle.std.specs.List.{list_all}
 use Rattle.std.proofs.lemmas.Grind.{take_at_read}
-use Rattle.std.proofs.lemmas.List.{map_more, length-take-le}
+use Rattle.std.proofs.lemmas.List.{length-take-le}
 use Rattle.nxf_tree.specs.declared.tree.SortEntry.{SortEntry}
 use Rattle.nxf_tree.specs.declared.tree.TableEntry.{TableEntry}
 use Rattle.nxf_tree.specs.Names.{user_sort, existence_name}
 use Rattle.nxf_tree.specs.Signature.{constant_regime, sort_names}
 use Rattle.nxf_tree.specs.ClassicalSignature.{existence_entries}
-use Rattle.nxf_meaning.proofs.Types.{split}
-use Rattle.fin_struct.specs.ExistenceTable.{existence_table}
+use Rattle.name_laws.proofs.Types.{split}
+use Rattle.fin_struct.specs.steps.ExistenceTable.{existence_table}
 
 pub sorts-named : (entries : List SortEntry) → map (λ (e : SortEntry). user_sort e.name) entries ≡ map user_sort (sort_names entries)
 sorts-named [] = refl
@@ -43,9 +43,6 @@ existence-next xs i d l =
 args-step : (b : Bool) (xs : List ℕ) (n : ℕ) → (if b then 0 ∷ xs else xs) ++ n ∷ [] ≡ (if b then 0 ∷ (xs ++ n ∷ []) else xs ++ n ∷ [])
 args-step true xs n = refl
 args-step false xs n = refl
-
-pub args-next : (b : Bool) (xs : List ℕ) (i : ℕ) → i < length xs → (if b then 0 ∷ map suc (take (i + 1) xs) else map suc (take (i + 1) xs)) ≡ (if b then 0 ∷ map suc (take i xs) else map suc (take i xs)) ++ suc (get_or xs i 0) ∷ []
-args-next b xs i l = ap (λ ns. if b then 0 ∷ ns else ns) (map_more suc xs i 0 l) ∙ sym (args-step b (map suc (take i xs)) (suc (get_or xs i 0)))
 
 pub member : {A : Type 0} (p : A → Bool) (xs : List A) (k : ℕ) (d : A) → k < length xs → list_all p xs ≡ true → p (get_or xs k d) ≡ true
 member p [] k d l h = absurd (omega arith)

@@ -2,7 +2,7 @@
 use Rattle.std.specs.Prelude.{◌≡◌, ℕ, zero, suc, ◌+◌, ◌<◌, List, [], ◌∷◌, take, drop, replicate, slice_index, slice_index_or, slice_set, Option, None, Some}
 use Rattle.nxf_tree.specs.Rows.{Shape}
 use Rattle.fin_struct.specs.declared.grid.GridShape.{GridShape}
-use Rattle.fin_struct.specs.Places.{rows_count, place}
+use Rattle.fin_struct.specs.Places.{rows_count, place, InRange}
 
 -- a table: the sizes of its arguments, for a function the size of the sort of its values, and the cells, row-major
 pub record CellTable : Type 0 where
@@ -30,6 +30,19 @@ cell table row = slice_index table.cells (place table.sizes row)
 -- the table with one cell changed
 abbrev pub with_cell : CellTable → List ℕ → ℕ → CellTable
 with_cell table row value = record { sizes = table.sizes; values = table.values; cells = slice_set table.cells (place table.sizes row) value }
+
+-- the tables with one cell changed, that of a row of a table
+abbrev pub with_row : List CellTable → ℕ → List ℕ → ℕ → List CellTable
+with_row tables t row value = slice_set tables t (with_cell (table_at tables t) row value)
+
+-- each cell but that of this row of this table is as before
+abbrev pub OthersStay : List CellTable → List CellTable → ℕ → List ℕ → Type 0
+OthersStay old new table row =
+    (t : ℕ) (r : List ℕ) → InRange (table_at old t).sizes r → ¬ ((t ≡ table) × (r ≡ row)) → cell (table_at new t) r ≡ cell (table_at old t) r
+
+-- each table has the sizes and the values that it had
+abbrev pub ShapesStay : List CellTable → List CellTable → Type 0
+ShapesStay old new = (t : ℕ) → ((table_at new t).sizes ≡ (table_at old t).sizes) × ((table_at new t).values ≡ (table_at old t).values)
 
 -- what the table is, without where its list of sizes lies
 abbrev pub grid_shape : GridShape → Shape

@@ -16,6 +16,8 @@ use Rattle.nxf_tree.specs.Conditions.{meets_scheme, someone_exists, everyone_exi
 use Rattle.nxf_tree.specs.WellFormed.{HasDifferentNames}
 use Rattle.fin_struct.specs.declared.condition.Condition.{Condition}
 use Rattle.fin_struct.specs.declared.condition.Condition.TheVariants.{Frame, Empty, Union, Monotone, Local, Premise, Conjecture}
+use Rattle.fin_struct.specs.KripkeTables.{KripkeTables, kripke_structure}
+use Rattle.nxf_tree.specs.Structures.{kripke_model}
 
 -- x is in the list and fails, and each before it holds
 pub record FailsFirst {X : Type 0} (holds : X → Bool) (xs : List X) (x : X) : Type 0 where
@@ -120,3 +122,7 @@ abbrev pub OneFirstFault : Type 0
 OneFirstFault =
     (holds : Condition → Bool) (conditions : List Condition) (found other : Option Condition) → IsFirstFailing holds conditions found → IsFirstFailing holds conditions other
     → found ≡ other
+
+-- what a condition asks of a structure in tables
+abbrev pub meets_in_tables : Signature → KripkeTables → Condition → Bool
+meets_in_tables sig tables = meets_condition sig (kripke_model sig (kripke_structure tables))

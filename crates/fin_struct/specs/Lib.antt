@@ -1,11 +1,8 @@
 pub mod Cells
-pub mod Correspondence
-pub mod ExistenceTable
 pub mod FirstFault
-pub mod KripkeLaws
-pub mod KripkeView
-pub mod KripkeWrites
+pub mod KripkeTables
 pub mod Limits
 pub mod Places
 pub mod RowLists
-pub mod StructureView
+pub mod StructureTables
+pub mod steps

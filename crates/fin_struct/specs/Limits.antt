@@ -1,7 +1,7 @@
 -- The number of cells of a structure, and the limits on structures.
 use Rattle.std.specs.Prelude.{◌≡◌, ℕ, ◌+◌, ◌<◌, ◌≤◌, min, List, [], ◌∷◌}
 use Rattle.nxf_tree.specs.declared.tree.ClassicalSignature.{ClassicalSignature}
-use Rattle.nxf_tree.specs.Rows.{Shape}
+use Rattle.nxf_tree.specs.Rows.{Shape, size_at}
 use Rattle.nxf_tree.specs.Structures.{table_shapes}
 use Rattle.fin_struct.specs.declared.limits.ShapeError.{ShapeError}
 use Rattle.fin_struct.specs.declared.limits.ShapeError.TheVariants.{TooManyWorlds, TooBig, Memory}
@@ -26,3 +26,7 @@ abbrev pub IsRefusal : ℕ → ℕ → ShapeError → Type 0
 IsRefusal worlds cells (TooManyWorlds n) = (n ≡ worlds) × (65535 < worlds)
 IsRefusal worlds cells (TooBig c) = (c ≡ cells) × (worlds ≤ 65535) × (4194304 < cells)
 IsRefusal worlds cells Memory = IsWithin worlds cells
+
+-- the same of the structures over a classical signature with these sizes of its sorts
+abbrev pub RefusesShape : ClassicalSignature → List ℕ → ShapeError → Type 0
+RefusesShape csig sizes = IsRefusal (size_at sizes 0) (cells_of csig sizes)

@@ -7,17 +7,17 @@ ghost use Rattle.nxf_tree.specs.Names as spelled;
 ghost use Rattle.nxf_tree.specs.Signature as signatures;
 ghost use Rattle.nxf_tree.specs.Sorting.{in_range, gives_in_range};
 ghost use Rattle.nxf_tree.specs.WellFormed.{IsWellFormed, has_sorts_in_range};
-ghost use Rattle.nxf_meaning.specs.Laws.{HasDifferentClassicalNames};
-ghost use Rattle.fin_struct.specs.StructureView.{HasSorts};
-ghost use Rattle.fin_struct.specs.ExistenceTable.{existence_table};
+ghost use Rattle.name_laws.specs.NameLaws.{HasDifferentClassicalNames};
+ghost use Rattle.fin_struct.specs.StructureTables.{HasSorts};
+ghost use Rattle.fin_struct.specs.steps.ExistenceTable.{existence_table};
 
+use classical_syntax::{
+    existence_name, is_constant_regime, is_flexible_designation, relation_name, user_name,
+    user_sort, world_sort,
+};
 use nxf_base::{List, Memory};
 use nxf_tree::{
     ClassicalSignature, IndexEntry, Signature, SortEntry, SortName, SymbolEntry, TableEntry,
-};
-use signature_parts::{
-    existence_name, is_constant_regime, is_flexible_designation, relation_name, user_name,
-    user_sort, world_sort,
 };
 use std::alloc::Global;
 
@@ -142,7 +142,7 @@ fn symbol_table(
 ) -> Result<TableEntry, Memory>
     requires well_formed { IsWellFormed signature.now }
     requires in_range { IsTrue (has_sorts_in_range signature.now symbol.now) }
-    ensures { IfOk result (λ table. table ≡ meant.symbol_table symbol.now) }
+    ensures { IfOk result (λ table. table ≡ meant.symbol_entry_of symbol.now) }
 {
     let gives = next_result(signature, symbol.gives);
     let name = user_name(alloc, &symbol.name)?;

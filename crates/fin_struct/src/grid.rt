@@ -1,7 +1,7 @@
 //! Tables whose cells stand in one list, one table after the other.
-ghost use Rattle.std.specs.Prelude.{◌≡◌, ℕ, ◌+◌, ◌<◌, ◌≤◌, List, length, IfOk, All, slice_set};
+ghost use Rattle.std.specs.Prelude.{◌≡◌, ◌+◌, ◌<◌, ◌≤◌, List, length, IfOk};
 ghost use Rattle.fin_struct.specs.Places.{InRange, place};
-ghost use Rattle.fin_struct.specs.Cells.{CellTable, bound_of, table_at, cell, with_cell, total_rows, blank_tables, sizes_at, start_of, starts_of, AllPositive, SameShapes};
+ghost use Rattle.fin_struct.specs.Cells.{with_row, OthersStay, ShapesStay, CellTable, bound_of, table_at, cell, total_rows, blank_tables, sizes_at, start_of, starts_of, AllPositive, SameShapes};
 ghost use Rattle.fin_struct.specs.Places.{row_under};
 
 use crate::places::{count_rows, place_under};
@@ -128,10 +128,10 @@ impl Grid {
         requires table_in { table < length self.old }
         requires row_in { InRange (table_at self.old table).sizes (row_under world args.now) }
         requires below { value < bound_of (table_at self.old table).values }
-        ensures written { self.new ≡ slice_set self.old table (with_cell (table_at self.old table) (row_under world args.now) value) }
+        ensures written { self.new ≡ with_row self.old table (row_under world args.now) value }
         ensures there { cell (table_at self.new table) (row_under world args.now) ≡ value }
-        ensures alone { (t : ℕ) (r : List ℕ) → InRange (table_at self.old t).sizes r → ¬ ((t ≡ table) × (r ≡ row_under world args.now)) → cell (table_at self.new t) r ≡ cell (table_at self.old t) r }
-        ensures shapes { (t : ℕ) → ((table_at self.new t).sizes ≡ (table_at self.old t).sizes) × ((table_at self.new t).values ≡ (table_at self.old t).values) }
+        ensures alone { OthersStay self.old self.new table (row_under world args.now) }
+        ensures shapes { ShapesStay self.old self.new }
     {
         let at = cell_place(&self.shapes, &self.starts, table, world, args);
         self.cells[at] = value;

@@ -1,13 +1,13 @@
 //! Finite Kripke structures.
-ghost use Rattle.std.specs.Prelude.{◌≡◌, ◌↔◌, ℕ, ◌+◌, ◌<◌, List, [], ◌∷◌, length, slice_set, slice_index_or, nat_eq, None, IsSome, IsTrue, IfOk, IfErr, if◌then◌else◌};
+ghost use Rattle.std.specs.Prelude.{◌≡◌, ℕ, ◌+◌, ◌<◌, List, [], ◌∷◌, length, None, IsSome, IfOk, IfErr, if◌then◌else◌};
 ghost use Rattle.nxf_tree.specs.Rows as rows;
 ghost use Rattle.nxf_tree.specs.ClassicalSignature.{classical_signature_of};
 ghost use Rattle.nxf_tree.specs.WellFormed.{IsWellFormed};
-ghost use Rattle.fin_struct.specs.Limits.{cells_in, cells_of, IsWithin, IsRefusal};
+ghost use Rattle.fin_struct.specs.Limits.{RefusesShape, cells_in, cells_of, IsWithin};
 ghost use Rattle.fin_struct.specs.Places.{InRange, row_under};
-ghost use Rattle.fin_struct.specs.Cells.{table_at, cell, with_cell, bound_of};
+ghost use Rattle.fin_struct.specs.Cells.{cell, bound_of};
 ghost use Rattle.fin_struct.specs.RowLists.{true_rows, listed, shapes_of, bit_of};
-ghost use Rattle.fin_struct.specs.KripkeView.{KripkeView, IsKripke, IsKripkeFor, kripke_shapes, blank_kripke, others_of, relation_table, related_in, existence_number, existence_place, exists_in, symbol_number, symbol_table, symbol_row, value_in, holds_in};
+ghost use Rattle.fin_struct.specs.KripkeTables.{with_written, with_value, WrittenAlone, KripkeTables, IsKripke, IsKripkeFor, kripke_shapes, blank_kripke, others_of, relation_table, related_in, existence_number, existence_place, exists_in, symbol_number, symbol_table, symbol_row, value_in, predicate_in};
 
 use crate::grid::Grid;
 use crate::kripke_tables::{kripke_cells, lay_out, world_columns};
@@ -19,7 +19,7 @@ use std::alloc::{AllocError, Global};
 use std::marker::Model;
 
 /// A finite Kripke structure over a signature. Contracts see the worlds, the size of each sort and the tables of cells:
-/// the relations first, then existence, then the symbols; `specs/KripkeView` has the structure of the definitions that it
+/// the relations first, then existence, then the symbols; `specs/KripkeTables` has the structure of the definitions that it
 /// is.
 #[derive(Drop)]
 pub struct Kripke {
@@ -34,9 +34,9 @@ pub struct Kripke {
 }
 
 impl Model for Kripke {
-    ghost use Rattle.fin_struct.specs.KripkeView.{KripkeView, IsKripke};
+    ghost use Rattle.fin_struct.specs.KripkeTables.{KripkeTables, IsKripke};
 
-    ghost Value = { KripkeView };
+    ghost Value = { KripkeTables };
 
     ghost view = { λ k. record { worlds = k.worlds; actual = k.actual; sizes = k.sizes.items; indexes = k.indexes; existence = k.existence.items; first_symbol = k.first_symbol; world_first = k.world_first.items; tables = k.grid } };
 
@@ -54,7 +54,7 @@ impl Kripke {
         ensures made { IfOk result (λ made. made ≡ blank_kripke over.now (rows.size_at sizes.now 0) (others_of sizes.now)) }
         ensures over { IfOk result (λ made. IsKripkeFor over.now made) }
         ensures within { IfOk result (λ made. IsKripke made) }
-        ensures refused { IfErr result (λ error. IsRefusal (rows.size_at sizes.now 0) (cells_of (classical_signature_of over.now) sizes.now) error) }
+        ensures refused { IfErr result (RefusesShape (classical_signature_of over.now) sizes.now) }
     {
         let sizes = sizes.as_slice();
         check_sizes(over, sizes)?;
@@ -111,9 +111,9 @@ impl Kripke {
         requires index_in { index < self.old.indexes }
         requires from_in { from < self.old.worlds }
         requires to_in { to < self.old.worlds }
-        ensures written { self.new ≡ record self.old { tables = slice_set self.old.tables index (with_cell (relation_table self.old index) (from ∷ to ∷ []) (bit_of yes)) } }
+        ensures written { self.new ≡ with_written self.old index (from ∷ to ∷ []) (bit_of yes) }
         ensures there { related_in self.new index from to ≡ yes }
-        ensures alone { (t : ℕ) (r : List ℕ) → InRange (table_at self.old.tables t).sizes r → ¬ ((t ≡ index) × (r ≡ from ∷ to ∷ [])) → cell (table_at self.new.tables t) r ≡ cell (table_at self.old.tables t) r }
+        ensures alone { WrittenAlone self.old self.new index (from ∷ to ∷ []) }
         ensures shapes { shapes_of self.new.tables ≡ shapes_of self.old.tables }
     {
         self.grid.set(index as usize, Some(from), &[to], bit(yes));
@@ -138,9 +138,9 @@ impl Kripke {
         requires varying { IsSome (existence_number self.old sort) }
         requires world_in { world < self.old.worlds }
         requires element_in { element < rows.size_at self.old.sizes sort }
-        ensures written { self.new ≡ record self.old { tables = slice_set self.old.tables (existence_place self.old sort) (with_cell (table_at self.old.tables (existence_place self.old sort)) (world ∷ element ∷ []) (bit_of yes)) } }
+        ensures written { self.new ≡ with_written self.old (existence_place self.old sort) (world ∷ element ∷ []) (bit_of yes) }
         ensures there { exists_in self.new sort world element ≡ yes }
-        ensures alone { (t : ℕ) (r : List ℕ) → InRange (table_at self.old.tables t).sizes r → ¬ ((t ≡ existence_place self.old sort) × (r ≡ world ∷ element ∷ [])) → cell (table_at self.new.tables t) r ≡ cell (table_at self.old.tables t) r }
+        ensures alone { WrittenAlone self.old self.new (existence_place self.old sort) (world ∷ element ∷ []) }
         ensures shapes { shapes_of self.new.tables ≡ shapes_of self.old.tables }
     {
         if let Some(table) = self.existence[sort as usize] {
@@ -172,9 +172,9 @@ impl Kripke {
         requires function { IsSome (symbol_table self.old symbol).values }
         requires row_in { InRange (symbol_table self.old symbol).sizes (symbol_row self.old symbol world args.now) }
         requires below { element < bound_of (symbol_table self.old symbol).values }
-        ensures written { self.new ≡ record self.old { tables = slice_set self.old.tables (symbol_number self.old symbol) (with_cell (symbol_table self.old symbol) (symbol_row self.old symbol world args.now) element) } }
+        ensures written { self.new ≡ with_value self.old symbol world args.now element }
         ensures there { value_in self.new symbol world args.now ≡ element }
-        ensures alone { (t : ℕ) (r : List ℕ) → InRange (table_at self.old.tables t).sizes r → ¬ ((t ≡ symbol_number self.old symbol) × (r ≡ symbol_row self.old symbol world args.now)) → cell (table_at self.new.tables t) r ≡ cell (table_at self.old.tables t) r }
+        ensures alone { WrittenAlone self.old self.new (symbol_number self.old symbol) (symbol_row self.old symbol world args.now) }
         ensures shapes { shapes_of self.new.tables ≡ shapes_of self.old.tables }
     {
         let table = self.symbol_place(symbol);
@@ -187,7 +187,7 @@ impl Kripke {
         requires symbol_in { symbol < length self.now.world_first }
         requires predicate { (symbol_table self.now symbol).values ≡ None }
         requires row_in { InRange (symbol_table self.now symbol).sizes (world ∷ args.now) }
-        ensures cell { result ≡ holds_in self.now symbol world args.now }
+        ensures cell { result ≡ predicate_in self.now symbol world args.now }
         ensures listed { result ≡ rows.is_true_row (listed (symbol_table self.now symbol)) (world ∷ args.now) }
     {
         self.grid.get(self.symbol_place(symbol), Some(world), args) == 1
@@ -198,9 +198,9 @@ impl Kripke {
         requires symbol_in { symbol < length self.old.world_first }
         requires predicate { (symbol_table self.old symbol).values ≡ None }
         requires row_in { InRange (symbol_table self.old symbol).sizes (world ∷ args.now) }
-        ensures written { self.new ≡ record self.old { tables = slice_set self.old.tables (symbol_number self.old symbol) (with_cell (symbol_table self.old symbol) (world ∷ args.now) (bit_of yes)) } }
-        ensures there { holds_in self.new symbol world args.now ≡ yes }
-        ensures alone { (t : ℕ) (r : List ℕ) → InRange (table_at self.old.tables t).sizes r → ¬ ((t ≡ symbol_number self.old symbol) × (r ≡ world ∷ args.now)) → cell (table_at self.new.tables t) r ≡ cell (table_at self.old.tables t) r }
+        ensures written { self.new ≡ with_written self.old (symbol_number self.old symbol) (world ∷ args.now) (bit_of yes) }
+        ensures there { predicate_in self.new symbol world args.now ≡ yes }
+        ensures alone { WrittenAlone self.old self.new (symbol_number self.old symbol) (world ∷ args.now) }
         ensures shapes { shapes_of self.new.tables ≡ shapes_of self.old.tables }
     {
         let table = self.symbol_place(symbol);
@@ -232,7 +232,7 @@ fn check_sizes(over: &Signature, sizes: &[u32]) -> Result<(), ShapeError>
     requires sizes { rows.AreSizes (classical_signature_of over.now).sorts sizes.now }
     ensures within { IfOk result (λ _. IsWithin (rows.size_at sizes.now 0) (cells_in (kripke_shapes over.now (rows.size_at sizes.now 0) (others_of sizes.now)))) }
     ensures counted { IfOk result (λ _. IsWithin (rows.size_at sizes.now 0) (cells_of (classical_signature_of over.now) sizes.now)) }
-    ensures refused { IfErr result (λ error. IsRefusal (rows.size_at sizes.now 0) (cells_of (classical_signature_of over.now) sizes.now) error) }
+    ensures refused { IfErr result (RefusesShape (classical_signature_of over.now) sizes.now) }
 {
     let worlds = size_at(sizes, 0);
     let cells = kripke_cells(over, worlds, other_sizes(sizes));

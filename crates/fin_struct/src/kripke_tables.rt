@@ -7,15 +7,15 @@ ghost use Rattle.nxf_tree.specs.WellFormed.{IsWellFormed};
 ghost use Rattle.fin_struct.specs.Places.{rows_count};
 ghost use Rattle.fin_struct.specs.Cells.{grid_shape};
 ghost use Rattle.fin_struct.specs.Limits.{cells_in};
-ghost use Rattle.fin_struct.specs.KripkeView as view;
-ghost use Rattle.fin_struct.specs.KripkeView.{pairs_shape, numbers_from};
+ghost use Rattle.fin_struct.specs.KripkeTables as view;
+ghost use Rattle.fin_struct.specs.KripkeTables.{pairs_shape, numbers_from};
 
 use crate::classical_signature::takes_world;
 use crate::grid::GridShape;
 use crate::limits::{size_at, table_rows};
 use crate::shapes::values_size;
+use classical_syntax::is_constant_regime;
 use nxf_tree::{IndexEntry, Regime, Signature, SortEntry, SymbolEntry};
-use signature_parts::is_constant_regime;
 use std::alloc::{AllocError, Global};
 
 /// The number of cells of a Kripke structure, or `u64::MAX` where that is greater. It takes no memory.

@@ -1,11 +1,11 @@
 //! Finite classical structures.
-ghost use Rattle.std.specs.Prelude.{◌≡◌, ℕ, ◌<◌, List, length, slice_set, IfOk, IfErr};
+ghost use Rattle.std.specs.Prelude.{◌≡◌, ◌<◌, List, length, IfOk, IfErr};
 ghost use Rattle.nxf_tree.specs.Rows as rows;
 ghost use Rattle.fin_struct.specs.Places.{InRange};
-ghost use Rattle.fin_struct.specs.Cells.{table_at, cell, with_cell, bound_of};
+ghost use Rattle.fin_struct.specs.Cells.{with_row, OthersStay, table_at, cell, bound_of};
 ghost use Rattle.fin_struct.specs.RowLists.{entry, listed, shapes_of};
-ghost use Rattle.fin_struct.specs.Limits.{cells_of, IsWithin, IsRefusal};
-ghost use Rattle.fin_struct.specs.StructureView.{IsStructure, IsFor, HasSorts, blank_structure};
+ghost use Rattle.fin_struct.specs.Limits.{RefusesShape, cells_of, IsWithin};
+ghost use Rattle.fin_struct.specs.StructureTables.{IsStructure, IsFor, HasSorts, blank_structure};
 
 use crate::grid::Grid;
 use crate::limits::{ShapeError, cells, check_limits, size_at};
@@ -16,7 +16,7 @@ use std::alloc::{AllocError, Global};
 use std::marker::Model;
 
 /// A finite structure over a classical signature. Contracts see the value of `mk_actual`, the size of each sort,
-/// `mk_world` first, and the tables of cells in the order of the signature; `specs/StructureView` has the structure of the
+/// `mk_world` first, and the tables of cells in the order of the signature; `specs/StructureTables` has the structure of the
 /// definitions that it is.
 #[derive(Drop)]
 pub struct Structure {
@@ -26,9 +26,9 @@ pub struct Structure {
 }
 
 impl Model for Structure {
-    ghost use Rattle.fin_struct.specs.StructureView.{StructureView, IsStructure};
+    ghost use Rattle.fin_struct.specs.StructureTables.{StructureTables, IsStructure};
 
-    ghost Value = { StructureView };
+    ghost Value = { StructureTables };
 
     ghost view = { λ s. record { actual = s.actual; sizes = s.sizes.items; tables = s.grid } };
 
@@ -48,7 +48,7 @@ impl Structure {
         ensures made { IfOk result (λ made. made ≡ blank_structure over.now sizes.now) }
         ensures over { IfOk result (λ made. IsFor over.now made) }
         ensures within { IfOk result (λ made. IsStructure made) }
-        ensures refused { IfErr result (λ error. IsRefusal (rows.size_at sizes.now 0) (cells_of over.now sizes.now) error) }
+        ensures refused { IfErr result (RefusesShape over.now sizes.now) }
     {
         check_limits(size_at(sizes.as_slice(), 0), cells(over, sizes))?;
         match make(alloc, over, sizes.as_slice()) {
@@ -96,9 +96,9 @@ impl Structure {
         requires table_in { table < length self.old.tables }
         requires row_in { InRange (table_at self.old.tables table).sizes args.now }
         requires below { value < bound_of (table_at self.old.tables table).values }
-        ensures written { self.new ≡ record self.old { tables = slice_set self.old.tables table (with_cell (table_at self.old.tables table) args.now value) } }
+        ensures written { self.new ≡ record self.old { tables = with_row self.old.tables table args.now value } }
         ensures there { cell (table_at self.new.tables table) args.now ≡ value }
-        ensures alone { (t : ℕ) (r : List ℕ) → InRange (table_at self.old.tables t).sizes r → ¬ ((t ≡ table) × (r ≡ args.now)) → cell (table_at self.new.tables t) r ≡ cell (table_at self.old.tables t) r }
+        ensures alone { OthersStay self.old.tables self.new.tables table args.now }
         ensures shapes { shapes_of self.new.tables ≡ shapes_of self.old.tables }
     {
         self.grid.set(table as usize, None, args, value);

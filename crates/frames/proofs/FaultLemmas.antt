@@ -14,24 +14,24 @@ use Rattle.nxf_tree.specs.WellFormed.{HasDifferentNames}
 use Rattle.fin_struct.specs.declared.condition.Condition.{Condition}
 use Rattle.fin_struct.specs.declared.condition.Condition.TheVariants.{Frame}
 use Rattle.fin_struct.specs.FirstFault.{meets_condition, frames_from}
-use Rattle.fin_struct.specs.KripkeView.{KripkeView, IsKripke, IsKripkeFor, related_in, kripke_structure}
-use Rattle.fin_struct.proofs.FirstFaultLemmas.{first_failing, front_holds, front_fails, first-map, drop-read, index_at-place}
-use Rattle.fin_struct.proofs.KripkeNames.{names-law}
+use Rattle.fin_struct.specs.KripkeTables.{KripkeTables, IsKripke, IsKripkeFor, related_in, kripke_structure}
+use Rattle.structure_laws.proofs.FirstFaultLemmas.{first_failing, front_holds, front_fails, first-map, drop-read, index_at-place}
+use Rattle.structure_laws.proofs.KripkeNames.{names-law}
 use Rattle.frames.proofs.StepLemmas.{scheme_same}
 
 -- whether the structure's model meets a condition
-abbrev pub holds_in : Signature → KripkeView → Condition → Bool
+abbrev pub holds_in : Signature → KripkeTables → Condition → Bool
 holds_in sig view = meets_condition sig (kripke_model sig (kripke_structure view))
 
 -- the structure is one for the signature, and the index stands at its place
-pub record AtIndex (sig : Signature) (view : KripkeView) (i : ℕ) (entry : IndexEntry) : Type 0 where
+pub record AtIndex (sig : Signature) (view : KripkeTables) (i : ℕ) (entry : IndexEntry) : Type 0 where
   pub different : HasDifferentNames sig
   pub kripke : IsKripke view
   pub over : IsKripkeFor sig view
   pub below : i < length sig.indexes
   pub is : entry ≡ get_or sig.indexes i entry
 
-pub at-index : (sig : Signature) (view : KripkeView) (i : ℕ) (entry : IndexEntry) (items : List IndexEntry) → HasDifferentNames sig → IsKripke view → IsKripkeFor sig view → items ≡ sig.indexes → i < length items → entry ≡ get_or items i entry → AtIndex sig view i entry
+pub at-index : (sig : Signature) (view : KripkeTables) (i : ℕ) (entry : IndexEntry) (items : List IndexEntry) → HasDifferentNames sig → IsKripke view → IsKripkeFor sig view → items ≡ sig.indexes → i < length items → entry ≡ get_or items i entry → AtIndex sig view i entry
 at-index sig view i entry items different kripke over same below is = record {
   different = different;
   kripke = kripke;
@@ -41,20 +41,20 @@ at-index sig view i entry items different kripke over same below is = record {
 }
 
 -- the condition of a scheme is said of the relation with the number
-frame-named : (sig : Signature) (view : KripkeView) (i : ℕ) (entry : IndexEntry) → AtIndex sig view i entry → (scheme : Scheme) → holds_in sig view (Frame i scheme) ≡ meets_scheme scheme view.worlds (related_in view i)
+frame-named : (sig : Signature) (view : KripkeTables) (i : ℕ) (entry : IndexEntry) → AtIndex sig view i entry → (scheme : Scheme) → holds_in sig view (Frame i scheme) ≡ meets_scheme scheme view.worlds (related_in view i)
 frame-named sig view i entry h scheme =
     let K : KripkeModel = kripke_model sig (kripke_structure view) in
     let at : slice_get sig.indexes i ≡ Some entry = slice_get_read sig.indexes _ i entry refl h.below h.is in
     ap (λ (name : IndexName). meets_scheme scheme view.worlds (K.related name)) (index_at-place sig.indexes i entry at)
     ∙ scheme_same scheme view.worlds (K.related entry.name) (related_in view i) (λ w v. (names-law sig view h.different h.kripke h.over).related i entry w v at)
 
-index-first : (sig : Signature) (view : KripkeView) (i : ℕ) (entry : IndexEntry) → AtIndex sig view i entry → first_failing (holds_in sig view) (map (Frame i) entry.schemes) ≡ option_map (Frame i) (first_failing (λ scheme. meets_scheme scheme view.worlds (related_in view i)) entry.schemes)
+index-first : (sig : Signature) (view : KripkeTables) (i : ℕ) (entry : IndexEntry) → AtIndex sig view i entry → first_failing (holds_in sig view) (map (Frame i) entry.schemes) ≡ option_map (Frame i) (first_failing (λ scheme. meets_scheme scheme view.worlds (related_in view i)) entry.schemes)
 index-first sig view i entry h =
     first-map (holds_in sig view) (Frame i) entry.schemes
     ∙ (λ j. option_map (Frame i) (first_failing (λ scheme. frame-named sig view i entry h scheme j) entry.schemes))
 
 -- an index that meets its schemes
-pub index-none : (sig : Signature) (view : KripkeView) (i : ℕ) (entry : IndexEntry) → AtIndex sig view i entry → first_failing (λ scheme. meets_scheme scheme view.worlds (related_in view i)) entry.schemes ≡ None
+pub index-none : (sig : Signature) (view : KripkeTables) (i : ℕ) (entry : IndexEntry) → AtIndex sig view i entry → first_failing (λ scheme. meets_scheme scheme view.worlds (related_in view i)) entry.schemes ≡ None
     → first_failing (holds_in sig view) (frames_from i (drop i sig.indexes)) ≡ first_failing (holds_in sig view) (frames_from (i + 1) (drop (i + 1) sig.indexes))
 index-none sig view i entry h none =
     ap (λ rest. first_failing (holds_in sig view) (frames_from i rest)) (drop-read sig.indexes i entry h.below h.is)
@@ -62,7 +62,7 @@ index-none sig view i entry h none =
     ∙ ap (λ n. first_failing (holds_in sig view) (frames_from n (drop (i + 1) sig.indexes))) (sym (add-one i))
 
 -- an index that doesn't
-pub index-some : (sig : Signature) (view : KripkeView) (i : ℕ) (entry : IndexEntry) (scheme : Scheme) → AtIndex sig view i entry → first_failing (λ s. meets_scheme s view.worlds (related_in view i)) entry.schemes ≡ Some scheme
+pub index-some : (sig : Signature) (view : KripkeTables) (i : ℕ) (entry : IndexEntry) (scheme : Scheme) → AtIndex sig view i entry → first_failing (λ s. meets_scheme s view.worlds (related_in view i)) entry.schemes ≡ Some scheme
     → first_failing (holds_in sig view) (frames_from i (drop i sig.indexes)) ≡ Some (Frame i scheme)
 index-some sig view i entry scheme h some =
     ap (λ rest. first_failing (holds_in sig view) (frames_from i rest)) (drop-read sig.indexes i entry h.below h.is)

@@ -5,8 +5,8 @@ use Rattle.nxf_tree.specs.declared.tree.Scheme.{Scheme}
 use Rattle.nxf_tree.specs.declared.tree.Scheme.TheVariants.{T, D, B, Four, Five, CD, BoxM, C4, C, U}
 use Rattle.nxf_tree.specs.Counting.{all_below, any_below, implies}
 use Rattle.nxf_tree.specs.Conditions.{meets_scheme}
-use Rattle.fin_struct.proofs.Counted.{all_implies, all_same, any_same}
-use Rattle.frames.specs.Steps.{meets_at}
+use Rattle.structure_laws.proofs.Counted.{all_implies, all_same, any_same}
+use Rattle.frames.specs.steps.WorldTests.{meets_at}
 
 pub by_worlds : (scheme : Scheme) (n : ℕ) (R : ℕ → ℕ → Bool) → meets_scheme scheme n R ≡ all_below n (meets_at scheme n R)
 by_worlds T n R = refl

@@ -2,10 +2,9 @@
 ghost use Rattle.std.specs.Prelude.{◌≡◌, ◌↔◌, ◌<◌, None, not};
 ghost use Rattle.std.specs.List.{find};
 ghost use Rattle.nxf_tree.specs.Conditions.{MeetsFrames, meets_scheme};
-ghost use Rattle.nxf_tree.specs.Structures.{kripke_model};
 ghost use Rattle.nxf_tree.specs.WellFormed.{IsWellFormed};
-ghost use Rattle.fin_struct.specs.FirstFault.{IsFirstFailing, meets_condition, frame_conditions};
-ghost use Rattle.fin_struct.specs.KripkeView.{IsKripkeFor, kripke_structure, related_in};
+ghost use Rattle.fin_struct.specs.FirstFault.{meets_in_tables, IsFirstFailing, frame_conditions};
+ghost use Rattle.fin_struct.specs.KripkeTables.{IsKripkeFor, kripke_structure, related_in};
 
 use crate::relations::meets;
 use fin_struct::{Condition, Kripke};
@@ -16,7 +15,7 @@ use nxf_tree::{Scheme, Signature};
 pub fn first_fault(over: &Signature, kripke: &Kripke) -> Option<Condition>
     requires well_formed { IsWellFormed over.now }
     requires over { IsKripkeFor over.now kripke.now }
-    ensures first { IsFirstFailing (meets_condition over.now (kripke_model over.now (kripke_structure kripke.now))) (frame_conditions over.now) result }
+    ensures first { IsFirstFailing (meets_in_tables over.now kripke.now) (frame_conditions over.now) result }
     ensures none { (result ≡ None) ↔ MeetsFrames over.now (kripke_structure kripke.now) }
 {
     let worlds = kripke.worlds();

@@ -4,8 +4,6 @@
 
 mod faults;
 mod relations;
-mod schemes;
-mod writing;
 
+pub use condition_axioms::frames::axioms;
 pub use faults::first_fault;
-pub use writing::axioms;

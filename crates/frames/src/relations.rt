@@ -2,8 +2,8 @@
 ghost use Rattle.std.specs.Prelude.{◌≡◌, ◌<◌, ◌&&◌, nat_eq};
 ghost use Rattle.nxf_tree.specs.Counting.{all_below, any_below, implies};
 ghost use Rattle.nxf_tree.specs.Conditions.{meets_scheme};
-ghost use Rattle.fin_struct.specs.KripkeView.{related_in};
-ghost use Rattle.frames.specs.Steps as steps;
+ghost use Rattle.fin_struct.specs.KripkeTables.{related_in};
+ghost use Rattle.frames.specs.steps.WorldTests as steps;
 
 use fin_struct::Kripke;
 use nxf_tree::Scheme;

@@ -1,5 +1,5 @@
 pub mod Choices
-pub mod Tables
 pub mod FirstFaults
 pub mod ListFaults
 pub mod ModalWords
+pub mod Tables

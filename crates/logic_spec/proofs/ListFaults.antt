@@ -17,7 +17,7 @@ use Rattle.nxf_tree.specs.Faults.{first_fault}
 use Rattle.nxf_tree.specs.SpecificationWords.{joins}
 use Rattle.nxf_tree.specs.Specification.{same_key, setting_name, and_word, words_of, and_override, overrides_of, is_empty, has_key, item_fault}
 use Rattle.logic_spec.specs.declared.seen.Seen.{Seen}
-use Rattle.logic_spec.specs.Seen.{Before, before, fault_after, and_item, is_seen, known}
+use Rattle.logic_spec.specs.steps.Seen.{Before, before, fault_after, and_item, is_seen, known}
 use Rattle.logic_spec.proofs.Choices.{and_true, choice_with}
 use Rattle.logic_spec.proofs.FirstFaults.{walked, walked_is}
 

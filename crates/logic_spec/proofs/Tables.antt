@@ -1,8 +1,7 @@
 -- The tables of a logic statement ask what it says.
-use Rattle.std.proofs.Common.{◌≡◌, Bool, true, false, List, [], ◌∷◌, ◌++◌, Option, None, Some, refl}
+use Rattle.std.proofs.Common.{◌≡◌, Bool, true, false, List, Option, None, Some, refl}
 use Rattle.std.specs.Prelude.{if◌then◌else◌}
 use Rattle.std.specs.Option.{option_and_then, option_or, unwrap_or}
-use Rattle.std.specs.Map.{lookup}
 use Rattle.nxf_tree.specs.declared.tree.Regime.TheVariants.{Constant}
 use Rattle.nxf_tree.specs.declared.tree.Designation.TheVariants.{Rigid}
 use Rattle.nxf_tree.specs.declared.tree.Locality.TheVariants.{Local}
@@ -13,18 +12,7 @@ use Rattle.nxf_tree.specs.SpecificationWords.{regime_named, designation_named, l
 use Rattle.nxf_tree.specs.Specification.{specification, override_list, setting_overrides, default_words}
 use Rattle.logic_spec.specs.declared.spec.Spec.{Spec}
 use Rattle.logic_spec.specs.Asked.{asked_by}
-use Rattle.logic_spec.specs.Noting.{IsWordTable, IsSchemeTable, schemes_said}
-
--- a name that wasn't among the entries goes last
-pub lookup-last : {K T : Type 0} (test : K → Bool) (entries : List (K × T)) (k : K) (value : T)
-    → lookup test (entries ++ (k, value) ∷ []) ≡ option_or (lookup test entries) (if test k then Some value else None)
-lookup-last test [] k value = refl
-lookup-last test (e ∷ entries) k value = by (test e.0) (lookup-last test entries k value)
-  where
-    by : (b : Bool) → lookup test (entries ++ (k, value) ∷ []) ≡ option_or (lookup test entries) (if test k then Some value else None)
-        → (if b then Some e.1 else lookup test (entries ++ (k, value) ∷ [])) ≡ option_or (if b then Some e.1 else lookup test entries) (if test k then Some value else None)
-    by true h = refl
-    by false h = h
+use Rattle.logic_spec.specs.steps.Noting.{IsWordTable, IsSchemeTable, schemes_said}
 
 -- what is noted counts where nothing was before
 pub noted : {A B : Type 0} (f : A → B) (before : Option B) (c : Bool) (own other : A)

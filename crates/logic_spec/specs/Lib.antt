@@ -1,4 +1,2 @@
 pub mod Asked
-pub mod Judging
-pub mod Noting
-pub mod Seen
+pub mod steps

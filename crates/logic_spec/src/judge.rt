@@ -11,8 +11,8 @@ ghost use Rattle.nxf_tree.specs.declared.tree.SpecValue.{out-SpecValue};
 ghost use Rattle.nxf_tree.specs.Faults.{first_fault};
 ghost use Rattle.nxf_tree.specs.SpecificationWords as words;
 ghost use Rattle.nxf_tree.specs.Specification as spec;
-ghost use Rattle.logic_spec.specs.Judging.{Judges};
-ghost use Rattle.logic_spec.specs.Seen as known;
+ghost use Rattle.logic_spec.specs.steps.Judging.{Judges};
+ghost use Rattle.logic_spec.specs.steps.Seen as known;
 
 use crate::error::SpecError;
 use crate::keys::{key_text, same_key, setting_name, setting_of};

@@ -11,8 +11,8 @@ ghost use Rattle.logic_spec.specs.Asked as asked;
 ghost use Rattle.logic_spec.specs.Asked.{asked_by};
 ghost use Rattle.nxf_tree.specs.Signature as indexes;
 ghost use Rattle.nxf_tree.specs.declared.tree.IndexName.{IndexName as AnyIndex};
-ghost use Rattle.logic_spec.specs.Judging as judging;
-ghost use Rattle.logic_spec.specs.Noting as noting;
+ghost use Rattle.logic_spec.specs.steps.Judging as judging;
+ghost use Rattle.logic_spec.specs.steps.Noting as noting;
 
 use crate::error::SpecError;
 use crate::judge::judge_logic;
@@ -107,7 +107,7 @@ fn value_asks(value: &SpecValue, scheme: Scheme) -> bool
 }
 
 /// The schemes that the words of the value ask.
-#[tactic(auto, unfolding(crate::specs::Noting::schemes_said))]
+#[tactic(auto, unfolding(crate::specs::steps::Noting::schemes_said))]
 fn schemes_in(alloc: Global, value: &SpecValue) -> Result<List<Scheme>, Memory>
     ensures { IfOk result (λ l. l ≡ noting.schemes_said (spec.words_in (out-SpecValue value.now))) }
 {
@@ -272,7 +272,7 @@ fn scheme_table_in(alloc: Global, value: &SpecValue) -> Result<SchemeTable, Memo
 }
 
 /// The default and the overrides of the modalities.
-#[tactic(auto, unfolding(crate::specs::Noting::schemes_said))]
+#[tactic(auto, unfolding(crate::specs::steps::Noting::schemes_said))]
 fn scheme_table(alloc: Global, entries: &[SpecEntry]) -> Result<SchemeTable, Memory>
     ensures { IfOk result (noting.IsSchemeTable (spec.default_words Setting.Modalities entries.now) (spec.setting_overrides Setting.Modalities entries.now)) }
 {

@@ -5,7 +5,7 @@ ghost use Rattle.indexmap.specs.IndexSet.{contains};
 ghost use Rattle.nxf_tree.specs.declared.tree.SpecKey.{SpecKey as AnyKey};
 ghost use Rattle.nxf_tree.specs.Names.{same_text};
 ghost use Rattle.nxf_tree.specs.Specification as spec;
-ghost use Rattle.logic_spec.specs.Seen as seen;
+ghost use Rattle.logic_spec.specs.steps.Seen as seen;
 
 use indexmap::IndexSet;
 use nxf_base::{Memory, Text};

@@ -52,7 +52,7 @@ pub const MODAL_AXIOMS: [ModalWord; 11] = [
 ];
 
 fn schemes_named(mut table: &[ModalWord], word: &[u8]) -> Option<&'static [Scheme]>
-    ensures { option_map (λ s. s.now) result ≡ spec.named [] (map (λ e. (e.0.now, e.1.now)) table.entry.now) word.now }
+    ensures { option_map (λ s. s.now) result ≡ spec.word_named [] (map (λ e. (e.0.now, e.1.now)) table.entry.now) word.now }
 {
     while let [entry, rest @ ..] = table {
         if entry.0 == word {

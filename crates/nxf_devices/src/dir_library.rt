@@ -1,3 +1,4 @@
+//! The files of a folder.
 ghost use Rattle.std.specs.Prelude.{◌<◌, ◌^◌, None};
 ghost use Rattle.nxf_base.specs.Load.{Loads};
 

@@ -1,3 +1,4 @@
+//! The top call over the real devices.
 ghost use Rattle.std.specs.Prelude.{IfOk};
 ghost use Rattle.nxf_devices.specs.Devices.{MayEndOverDevices};
 

@@ -1,3 +1,4 @@
+//! Reading a stream up to a limit.
 ghost use Rattle.std.specs.Prelude.{◌≡◌, ℕ, ◌+◌, ◌<◌, ◌≤◌, ◌^◌, ◌++◌, List, length, OnOk, OnErr};
 
 use std::io;

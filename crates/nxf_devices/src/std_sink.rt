@@ -1,3 +1,4 @@
+//! The standard outputs.
 ghost use Rattle.std.specs.Prelude.{◌≡◌};
 
 use nxf_base::{Sink, SinkError};

@@ -1,3 +1,5 @@
+//! Standard input, as a file that can be loaded once.
+
 use crate::read::{ReadError, read_up_to};
 use nxf_base::{Found, Library, LoadError, Text};
 

@@ -1,3 +1,5 @@
+//! The words after the name of the program.
+
 use nxf_base::{List, Memory, Text};
 use std::alloc::Global;
 use std::env::{Env, FillError};

@@ -8,11 +8,11 @@ use Rattle.nxf_tree.specs.declared.tree.Signature.{Signature}
 use Rattle.nxf_tree.specs.declared.tree.PartEntry.{PartEntry}
 use Rattle.nxf_tree.specs.declared.tree.Formula.{Formula, True}
 use Rattle.nxf_tree.specs.declared.tree.Statement.{Statement}
-use Rattle.nxf_meaning.proofs.Spelling.{never}
-use Rattle.nxf_sorts.specs.declared.node.Numbered.{Numbered}
-use Rattle.nxf_sorts.specs.NamedForm.{FormulaStatement, named, named_form, all_named}
+use Rattle.name_laws.proofs.Spelling.{never}
+use Rattle.numbered_definitions.specs.declared.node.Numbered.{Numbered}
+use Rattle.numbered_definitions.specs.NamedForm.{FormulaStatement, named, named_form, all_named}
 use Rattle.nxf_translate.proofs.Options.{mapped, joined}
-use Rattle.nxf_embed.specs.Chosen.{part_statement, chosen}
+use Rattle.nxf_embed.specs.steps.Chosen.{part_statement, chosen}
 
 pub differ : (a b : ℕ) → (a ≡ b → ⊥) → nat_eq a b ≡ false
 differ a b h = never (nat_eq a b) (λ e. h (eqb-true a b e))

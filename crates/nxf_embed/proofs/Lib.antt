@@ -1,7 +1,6 @@
-pub mod Declaring
-pub mod Printable
-pub mod OneConjecture
-pub mod Numbering
 pub mod Choosing
+pub mod Declaring
+pub mod Numbering
+pub mod OneConjecture
+pub mod Printable
 pub mod Read
-pub mod WorkedCases

@@ -24,7 +24,7 @@ use Rattle.nxf_tree.specs.Parts.{part_of, has_known_role, is_conjecture, stateme
 use Rattle.nxf_tree.specs.Axioms.{added_axioms}
 use Rattle.nxf_tree.specs.ClassicalSignature.{classical_signature_of}
 use Rattle.nxf_tree.specs.Problem.{problem_of, sort_declarations, table_declaration, declarations, axiom_statements, embedded_part, embedded_statement, embedded_statements}
-use Rattle.nxf_meaning.proofs.NoFault.{or-none, map-none}
+use Rattle.signature_laws.proofs.NoFault.{or-none, map-none}
 use Rattle.nxf_embed.specs.Kept.{has_conjecture_role, HasOneConjectureAtMost}
 
 -- how many pass a test

@@ -15,12 +15,12 @@ use Rattle.nxf_tree.specs.Faults.{first_fault, unless}
 use Rattle.nxf_tree.specs.Parts.{part_of, role_fault, statement_part, and_part, part_entries, parts_of}
 use Rattle.nxf_tree.specs.Problem.{embedded_part, embedded_statements}
 use Rattle.nxf_tree.specs.Sorting.{is_sorted, modal_language, statement_is_sorted, IsWellSorted}
-use Rattle.nxf_meaning.proofs.SortedFormulas.{both as both-true}
-use Rattle.nxf_meaning.proofs.Types.{split}
-use Rattle.nxf_sorts.specs.declared.node.Numbered.{Numbered}
-use Rattle.nxf_sorts.specs.NamedForm.{FormulaStatement, IsSortedFormula, named, all_named, formulas_from, formulas_of}
+use Rattle.name_laws.proofs.SortedFormulas.{both as both-true}
+use Rattle.name_laws.proofs.Types.{split}
+use Rattle.numbered_definitions.specs.declared.node.Numbered.{Numbered}
+use Rattle.numbered_definitions.specs.NamedForm.{FormulaStatement, IsSortedFormula, named, all_named, formulas_from, formulas_of}
 use Rattle.nxf_translate.proofs.Options.{joined}
-use Rattle.nxf_embed.specs.Chosen.{part_statement, chosen}
+use Rattle.nxf_embed.specs.steps.Chosen.{part_statement, chosen}
 use Rattle.nxf_embed.proofs.Choosing.{not-chosen, is-chosen, form-is}
 
 skip-part : (sig : Signature) (f : FormulaStatement) (fs : List FormulaStatement) (k : ℕ) (part : Option Part) (ps : List PartEntry) → f.place < k

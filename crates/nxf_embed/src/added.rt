@@ -5,9 +5,10 @@ ghost use Rattle.nxf_tree.specs.Problem.{axiom_statements};
 ghost use Rattle.nxf_tree.specs.WellFormed.{IsWellFormed};
 
 use crate::declare::formula_statement;
+use classical_syntax::axiom_name;
+use condition_axioms::{designation, domains, frames};
 use nxf_base::{List, Memory};
 use nxf_tree::{Formula, Signature, Statement};
-use signature_parts::axiom_name;
 use std::alloc::Global;
 
 /// Adds the axioms of a signature, numbered from 1: frames by index and scheme, domains by sort, terms by symbol.

@@ -2,14 +2,14 @@
 ghost use Rattle.std.specs.Prelude.{◌≡◌, ◌≤◌, ◌<◌, ℕ, [], ◌∷◌, ◌++◌, List, length, drop, slice_get, Some, IfOk, OnOk};
 ghost use Rattle.nxf_tree.specs.WellFormed.{HasDifferentNames};
 ghost use Rattle.nxf_tree.specs.declared.tree.Formula.{Formula};
-ghost use Rattle.nxf_sorts.specs.declared.node.Numbered.{Numbered};
-ghost use Rattle.nxf_sorts.specs.NamedForm.{FormulaStatement, IsSortedFormula, named, named_form, all_named};
-ghost use Rattle.nxf_embed.specs.Chosen as spec;
+ghost use Rattle.numbered_definitions.specs.declared.node.Numbered.{Numbered};
+ghost use Rattle.numbered_definitions.specs.NamedForm.{FormulaStatement, IsSortedFormula, named, named_form, all_named};
+ghost use Rattle.nxf_embed.specs.steps.Chosen as spec;
 
 use crate::declare::formula_statement;
+use numbered_definitions::{Checked, Numbered};
 use nxf_base::{List, Memory};
 use nxf_roles::Parts;
-use nxf_sorts::{Checked, Numbered};
 use nxf_translate::translate_closed;
 use nxf_tree::{Part, Signature, Statement};
 use std::alloc::Global;

@@ -3,16 +3,16 @@ ghost use Rattle.std.specs.Prelude.{◌≡◌, ◌∷◌, [], ◌++◌, IfOk, On
 ghost use Rattle.std.specs.Option.{option_map};
 ghost use Rattle.nxf_tree.specs.Names as spelled;
 ghost use Rattle.nxf_tree.specs.Problem as spec;
-ghost use Rattle.nxf_tree.specs.Problem.{role_of, classical_sort_at};
+ghost use Rattle.nxf_tree.specs.Problem.{role_named, classical_sort_at};
 
+use classical_syntax::{actual_name, world_name};
 use nxf_base::{List, Memory, Text};
 use nxf_tree::{Body, ClassicalSignature, Formula, Role, SortName, Statement, TableEntry, Typing};
-use signature_parts::{actual_name, world_name};
 use std::alloc::Global;
 
 /// A role of one word.
 fn role(alloc: Global, word: &[u8]) -> Result<Role, Memory>
-    ensures { IfOk result (λ made. made ≡ role_of word.now) }
+    ensures { IfOk result (λ made. made ≡ role_named word.now) }
 {
     match Text::from_bytes(alloc, word) {
         Ok(word) => Ok(Role { word, suffix: None }),

@@ -1,7 +1,8 @@
+//! The operators and modes that signs stand for.
 ghost use Rattle.std.specs.Prelude.{◌≡◌};
-ghost use Rattle.nxf_formulas.specs.Operators as spec;
+ghost use Rattle.syntax_definitions.specs.Operators as spec;
 
-use nxf_signs::Sign;
+use nxf_terminals::Sign;
 use nxf_tree::{Mode, Op};
 
 pub fn operator(sign: Sign) -> Option<Op>

@@ -1,16 +1,15 @@
 //! Recursive descent. Each function goes on with what it read, and its depth is bounded by the levels that are left.
 //! The functions on the way down are kept apart, so that a level takes little of the stack.
 
-ghost use Rattle.std.specs.Prelude.{[], ◌≡◌, ℕ};
-ghost use Rattle.nxf_signs.specs.Input as input;
-ghost use Rattle.nxf_signs.specs.Input.{Gives};
+ghost use Rattle.std.specs.Prelude.{[]};
+ghost use Rattle.nxf_terminals.specs.Input as input;
+ghost use Rattle.nxf_terminals.specs.Input.{Gives};
 ghost use Rattle.nxf_tree.specs.declared.tree.Formula.{Formula};
-ghost use Rattle.nxf_formulas.specs.Grammar.{IsFormula};
-ghost use Rattle.nxf_formulas.specs.Parse as spec;
+ghost use Rattle.syntax_definitions.specs.steps.ReadFormulas as spec;
 
 use crate::operators::{mode_of, operator};
 use nxf_base::{List, Text};
-use nxf_signs::{Cursor, GrammarError, Sign, push};
+use nxf_terminals::{Cursor, GrammarError, Sign, push};
 use nxf_tree::{Formula, IndexName, Mode, Op, Quantifier, SortName, Term, equation, inequation};
 use sqlite_items::Boxed;
 use std::alloc::Global;
@@ -18,7 +17,7 @@ use std::alloc::Global;
 // ---- terms
 
 #[cycle(term)]
-#[tactic(auto, unfolding(crate::specs::Parse::term))]
+#[tactic(auto, unfolding(syntax_definitions::specs::steps::ReadFormulas::term))]
 fn term(
     alloc: Global,
     cursor: &mut Cursor<'_>,
@@ -38,7 +37,7 @@ fn term(
 }
 
 #[cycle(term)]
-#[tactic(auto, unfolding(crate::specs::Parse::arguments))]
+#[tactic(auto, unfolding(syntax_definitions::specs::steps::ReadFormulas::arguments))]
 fn arguments(
     alloc: Global,
     cursor: &mut Cursor<'_>,
@@ -97,7 +96,7 @@ fn terms(
 
 #[inline(never)]
 #[cycle(unit)]
-#[tactic(auto, unfolding(crate::specs::Parse::whole))]
+#[tactic(auto, unfolding(syntax_definitions::specs::steps::ReadFormulas::whole))]
 fn whole(
     alloc: Global,
     cursor: &mut Cursor<'_>,
@@ -180,7 +179,7 @@ fn units(
 // ---- units
 
 /// A sort: `$i` or a name.
-#[tactic(auto, unfolding(crate::specs::Parse::sort_name))]
+#[tactic(auto, unfolding(syntax_definitions::specs::steps::ReadFormulas::sort_name))]
 pub fn sort_name(alloc: Global, cursor: &mut Cursor<'_>) -> Result<SortName, GrammarError>
     ensures { Gives (spec.sort_name cursor.old) result cursor.new }
 {
@@ -195,7 +194,7 @@ pub fn sort_name(alloc: Global, cursor: &mut Cursor<'_>) -> Result<SortName, Gra
 }
 
 #[inline(never)]
-#[tactic(auto, unfolding(crate::specs::Parse::bound_sort))]
+#[tactic(auto, unfolding(syntax_definitions::specs::steps::ReadFormulas::bound_sort))]
 fn bound_sort(alloc: Global, cursor: &mut Cursor<'_>) -> Result<SortName, GrammarError>
     ensures { Gives (spec.bound_sort cursor.old) result cursor.new }
 {
@@ -209,7 +208,7 @@ fn bound_sort(alloc: Global, cursor: &mut Cursor<'_>) -> Result<SortName, Gramma
 }
 
 /// The text of an index or a label: a name or an integer.
-#[tactic(auto, unfolding(crate::specs::Parse::index_text))]
+#[tactic(auto, unfolding(syntax_definitions::specs::steps::ReadFormulas::index_text))]
 pub fn index_text(alloc: Global, cursor: &mut Cursor<'_>) -> Result<Text, GrammarError>
     ensures { Gives (spec.index_text cursor.old) result cursor.new }
 {
@@ -221,7 +220,7 @@ pub fn index_text(alloc: Global, cursor: &mut Cursor<'_>) -> Result<Text, Gramma
 }
 
 /// What follows the word of a modality in braces: an index in brackets or none, and the brace.
-#[tactic(auto, unfolding(crate::specs::Parse::long_index))]
+#[tactic(auto, unfolding(syntax_definitions::specs::steps::ReadFormulas::long_index))]
 pub fn long_index(alloc: Global, cursor: &mut Cursor<'_>) -> Result<IndexName, GrammarError>
     ensures { Gives (spec.long_index cursor.old) result cursor.new }
 {
@@ -287,7 +286,7 @@ fn after_name(
 
 #[inline(never)]
 #[cycle(unit)]
-#[tactic(auto, unfolding(crate::specs::Parse::scope))]
+#[tactic(auto, unfolding(syntax_definitions::specs::steps::ReadFormulas::scope))]
 fn scope(
     alloc: Global,
     cursor: &mut Cursor<'_>,
@@ -307,7 +306,7 @@ fn scope(
 
 #[inline(never)]
 #[cycle(unit)]
-#[tactic(auto, unfolding(crate::specs::Parse::variable, crate::specs::Parse::unit))]
+#[tactic(auto, unfolding(syntax_definitions::specs::steps::ReadFormulas::variable, syntax_definitions::specs::steps::ReadFormulas::unit))]
 fn quantified(
     alloc: Global,
     cursor: &mut Cursor<'_>,
@@ -345,7 +344,7 @@ fn inner(
 /// A formula one deeper, up to the closing bracket.
 #[inline(never)]
 #[cycle(unit)]
-#[tactic(auto, unfolding(crate::specs::Parse::group))]
+#[tactic(auto, unfolding(syntax_definitions::specs::steps::ReadFormulas::group))]
 fn group(
     alloc: Global,
     cursor: &mut Cursor<'_>,
@@ -365,7 +364,7 @@ fn group(
 /// What stands after the opening bracket of an indexed modality.
 #[inline(never)]
 #[cycle(unit)]
-#[tactic(auto, unfolding(crate::specs::Parse::modal_of))]
+#[tactic(auto, unfolding(syntax_definitions::specs::steps::ReadFormulas::modal_of))]
 fn modal_of(
     alloc: Global,
     cursor: &mut Cursor<'_>,
@@ -386,7 +385,7 @@ fn modal_of(
 /// What stands after the brace of a long form.
 #[inline(never)]
 #[cycle(unit)]
-#[tactic(auto, unfolding(crate::specs::Parse::long))]
+#[tactic(auto, unfolding(syntax_definitions::specs::steps::ReadFormulas::long))]
 fn long(
     alloc: Global,
     cursor: &mut Cursor<'_>,
@@ -561,7 +560,7 @@ fn unit(
 }
 
 /// A formula, with so many levels of nesting and arguments of a name at most.
-#[tactic(auto, unfolding(crate::specs::Parse::formula))]
+#[tactic(auto, unfolding(syntax_definitions::specs::steps::ReadFormulas::formula))]
 pub fn formula(
     alloc: Global,
     cursor: &mut Cursor<'_>,
@@ -572,8 +571,3 @@ pub fn formula(
 {
     whole(alloc, cursor, left, most)
 }
-
-/// No tokens spell two formulas.
-pub fn one_formula()
-    ensures { (most levels : ℕ) (tokens : input.Input) (f g : Formula) → IsFormula most levels tokens f [] → IsFormula most levels tokens g [] → f ≡ g }
-{}

@@ -1,27 +1,27 @@
 //! Cuts the tokens into statement parts, and reads a statement from each.
 
-ghost use Rattle.std.specs.Prelude.{[], ◌≡◌, ◌≢◌, ◌<◌, ◌≤◌, ◌^◌, ◌-◌, ◌+◌, ◌*◌, ℕ, Bool, List, length, All, Ok, Err, IfOk, IfErr};
+ghost use Rattle.std.specs.Prelude.{[], ◌≡◌, ◌<◌, ◌≤◌, ◌^◌, ◌-◌, ◌+◌, ◌*◌, ℕ, List, length, All, Ok, Err, IfOk, IfErr};
 ghost use Rattle.tptp_lex.specs.declared.token.Token.{Token};
 ghost use Rattle.tptp_lex.specs.Lexing.{Lexes, IsSpan};
-ghost use Rattle.std.specs.List.{AllByRecursion};
-ghost use Rattle.nxf_signs.specs.Input as input;
-ghost use Rattle.nxf_signs.specs.declared.sign.Profile.{Profile};
+ghost use Rattle.nxf_terminals.specs.Input as input;
+ghost use Rattle.nxf_terminals.specs.Input.{IsUnlessMemory};
+ghost use Rattle.nxf_tree.specs.declared.profile.Profile.{Profile};
 ghost use Rattle.nxf_tree.specs.declared.tree.File.{File};
 ghost use Rattle.nxf_tree.specs.declared.tree.Statement.{Statement};
-ghost use Rattle.nxf_statements.specs.Statements.{IsStatement};
-ghost use Rattle.nxf_statements.specs.ReadStatements.{read_statement};
-ghost use Rattle.nxf_grammar.specs.Files as spec;
-ghost use Rattle.nxf_grammar.specs.Files.{AreRead, Explains};
-ghost use Rattle.nxf_grammar.specs.Levels.{file_levels};
-ghost use Rattle.nxf_grammar.specs.Profiles as profiles;
+ghost use Rattle.syntax_definitions.specs.steps.ReadStatements.{read_statement};
+ghost use Rattle.syntax_definitions.specs.steps.ReadFiles as spec;
+ghost use Rattle.syntax_definitions.specs.Files.{AreRead, statement_parts};
+ghost use Rattle.syntax_definitions.specs.steps.ReadFiles.{Explains};
+ghost use Rattle.syntax_definitions.specs.Levels.{file_levels};
+ghost use Rattle.nxf_tree.specs.Profiles as profiles;
 ghost use Rattle.nxf_tree.specs.FileDepth.{file_depth};
 ghost use Rattle.nxf_tree.specs.Weight.{file_weight};
-ghost use Rattle.nxf_statements.specs.Regular.{IsRegular};
-ghost use Rattle.nxf_grammar.specs.Spells.{parts_of, TokensSpell, IsFirstFault, Spells, IsCause};
+ghost use Rattle.nxf_tree.specs.Regular.{IsRegular};
+ghost use Rattle.syntax_definitions.specs.Spells.{statement_parts_of, TokensSpell, IsFirstFault, Spells, IsCause};
 
 use nxf_base::List;
-use nxf_signs::{Cursor, GrammarError, Profile, Sign, push};
 use nxf_statements::statement;
+use nxf_terminals::{Cursor, GrammarError, Profile, Sign, push};
 use nxf_tree::{File, Statement};
 use std::alloc::Global;
 use tptp_lex::{Token, Tokens, spans_in_order};
@@ -79,7 +79,7 @@ fn parts(
 ) -> Result<List<Statement>, GrammarError>
     requires within { All (IsSpan (length bytes.now)) tokens.now }
     requires few { length tokens.now < 2 ^ 32 }
-    ensures { spec.Answers (spec.read_parts (read_statement with_includes most levels) (spec.statement_parts (input.input_of profile bytes.now tokens.now)) 1 []) result }
+    ensures { spec.Answers (spec.read_parts (read_statement with_includes most levels) (statement_parts (input.input_of profile bytes.now tokens.now)) 1 []) result }
 {
     let mut found = List::new(alloc);
     let mut rest = tokens;
@@ -106,7 +106,7 @@ fn parts(
     Ok(found)
 }
 
-#[tactic(auto, unfolding(crate::specs::Profiles::most_arguments))]
+#[tactic(auto, unfolding(nxf_tree::specs::Profiles::most_arguments))]
 fn most_arguments(profile: Profile) -> usize
     ensures { result ≡ profiles.most_arguments profile }
 {
@@ -116,7 +116,7 @@ fn most_arguments(profile: Profile) -> usize
     }
 }
 
-#[tactic(auto, unfolding(crate::specs::Profiles::greatest_nesting))]
+#[tactic(auto, unfolding(nxf_tree::specs::Profiles::greatest_nesting))]
 fn levels_of(profile: Profile) -> usize
     ensures { result ≡ profiles.levels_of profile }
 {
@@ -146,8 +146,8 @@ fn read_within(
     most: usize,
 ) -> Result<File, GrammarError>
     requires lexed { Lexes bytes.now tokens.now }
-    ensures read { IfOk result (λ f. AreRead with_includes most levels (parts_of profile bytes.now tokens.now) f.statements) }
-    ensures refused { IfErr result (λ e. Explains with_includes most levels (parts_of profile bytes.now tokens.now) e) }
+    ensures read { IfOk result (λ f. AreRead with_includes most levels (statement_parts_of profile bytes.now tokens.now) f.statements) }
+    ensures refused { IfErr result (λ e. Explains with_includes most levels (statement_parts_of profile bytes.now tokens.now) e) }
 {
     spans_in_order();
     match parts(
@@ -181,23 +181,11 @@ pub fn read_file(
     ensures weight { IfOk result (λ f. file_weight f ≤ length tokens.now) }
     ensures regular { IfOk result (λ f. IsRegular profiles.any_allowed f) }
     ensures allowed { IfOk result (λ f. IsRegular (profiles.allowed_in profile) f) }
-    ensures read_exactly { (f : File) → Spells profile bytes.now f → result ≢ Err GrammarError.Memory → result ≡ Ok f }
-    ensures refused_exactly { (k : ℕ) → IsFirstFault profile bytes.now tokens.now k → result ≢ Err GrammarError.Memory → result ≡ Err (GrammarError.Syntax k) }
+    ensures read_exactly { (f : File) → Spells profile bytes.now f → IsUnlessMemory result (Ok f) }
+    ensures refused_exactly { (k : ℕ) → IsFirstFault profile bytes.now tokens.now k → IsUnlessMemory result (Err (GrammarError.Syntax k)) }
 {
     let levels = levels_of(profile);
     let most = most_arguments(profile);
     let with_includes = has_includes(profile);
     read_within(alloc, bytes, tokens, profile, with_includes, levels, most)
 }
-
-/// One list of tokens has at most one tree for each rule, so no bytes spell two files in one profile.
-pub fn one_file()
-    ensures file { (profile : Profile) (bytes : List ℕ) (f g : File) → Spells profile bytes f → Spells profile bytes g → f ≡ g }
-    ensures either { (profile : Profile) (bytes : List ℕ) (tokens : List Token) (f : File) (k : ℕ) → TokensSpell profile bytes tokens f → IsFirstFault profile bytes tokens k → ⊥ }
-    ensures fault { (profile : Profile) (bytes : List ℕ) (tokens : List Token) (j k : ℕ) → IsFirstFault profile bytes tokens j → IsFirstFault profile bytes tokens k → j ≡ k }
-{}
-
-/// No rule reads tokens without a full stop, so none reads a rest of the tokens that has none.
-pub fn no_rest_is_read()
-    ensures { (w : Bool) (most n : ℕ) (p : input.Input) (s : Statement) → AllByRecursion spec.IsNoStop p → IsStatement w most n p s [] → ⊥ }
-{}

@@ -4,5 +4,5 @@
 
 mod file;
 
-pub use file::{no_rest_is_read, one_file, read_file};
-pub use nxf_signs::{GrammarError, Profile};
+pub use file::read_file;
+pub use nxf_terminals::{GrammarError, Profile};

@@ -10,7 +10,7 @@ use Rattle.nxf_base.specs.Causes.{Rose}
 use Rattle.nxf_base.specs.Files.{file_of}
 use Rattle.nxf_base.specs.Shelf as one
 use Rattle.nxf_base.specs.Shelf.{Shelf}
-use Rattle.nxf_include.specs.Roots.{files_of, Keeps, SomeFaultRose, EachMissRose}
+use Rattle.nxf_include.specs.Roots.{files_of, KeepEach, SomeFaultRose, EachMissRose}
 use Rattle.nxf_include.proofs.Over.{told_first, told_others}
 
 -- one library had no file of the name
@@ -25,7 +25,7 @@ module _ {L : Type 0} (shelf : L → Shelf) (name : List ℕ) where
   Asked (suc at) (x ∷ xs) (y ∷ ys) = Missed name (shelf x) (shelf y) × Asked at xs ys
   Asked _ _ _ = ⊥
 
-  same_keeps : (xs : List L) → Keeps (map shelf xs) (map shelf xs)
+  same_keeps : (xs : List L) → KeepEach (map shelf xs) (map shelf xs)
   same_keeps [] = tt
   same_keeps (x ∷ xs) = (record { files = refl; faults = omega arith; misses = omega arith }, same_keeps xs)
 
@@ -40,13 +40,13 @@ module _ {L : Type 0} (shelf : L → Shelf) (name : List ℕ) where
   asked_next (suc at) (u ∷ us) [] d y asked short missed = absurd asked
   asked_next (suc at) (u ∷ us) (z ∷ zs) d y asked short missed = (asked.0, asked_next at us zs d y asked.1 (omega arith) missed)
 
-  pub asked_keeps : (at : ℕ) (old new : List L) (d y : L) → Asked at old new → at < length new → one.Keeps (shelf (get_or new at d)) (shelf y) → Keeps (map shelf old) (map shelf (set new at y))
+  pub asked_keeps : (at : ℕ) (old new : List L) (d y : L) → Asked at old new → at < length new → one.Keeps (shelf (get_or new at d)) (shelf y) → KeepEach (map shelf old) (map shelf (set new at y))
   asked_keeps zero old [] d y asked short keeps = absurd (omega arith)
   asked_keeps zero [] (z ∷ zs) d y asked short keeps = absurd (cc)
   asked_keeps zero (u ∷ us) (z ∷ zs) d y asked short keeps =
       let e : z ≡ u = cc in
       let r : zs ≡ us = cc in
-      (subst (λ v. one.Keeps (shelf v) (shelf y)) e keeps, subst (λ vs. Keeps (map shelf us) (map shelf vs)) (sym r) (same_keeps us))
+      (subst (λ v. one.Keeps (shelf v) (shelf y)) e keeps, subst (λ vs. KeepEach (map shelf us) (map shelf vs)) (sym r) (same_keeps us))
   asked_keeps (suc at) [] new d y asked short keeps = absurd asked
   asked_keeps (suc at) (u ∷ us) [] d y asked short keeps = absurd asked
   asked_keeps (suc at) (u ∷ us) (z ∷ zs) d y asked short keeps = (asked.0.keeps, asked_keeps at us zs d y asked.1 (omega arith) keeps)
@@ -72,8 +72,8 @@ module _ {L : Type 0} (shelf : L → Shelf) (name : List ℕ) where
   asked_here bytes (suc at) (u ∷ us) (z ∷ zs) d asked short here =
       told_others name (Some bytes) (shelf u).files (files_of (map shelf us)) asked.0.none (asked_here bytes at us zs d asked.1 (omega arith) here)
 
-  pub all_keep : (at : ℕ) (old new : List L) → Asked at old new → Keeps (map shelf old) (map shelf new)
-  all_keep zero old new asked = subst (λ vs. Keeps (map shelf old) (map shelf vs)) (sym asked) (same_keeps old)
+  pub all_keep : (at : ℕ) (old new : List L) → Asked at old new → KeepEach (map shelf old) (map shelf new)
+  all_keep zero old new asked = subst (λ vs. KeepEach (map shelf old) (map shelf vs)) (sym asked) (same_keeps old)
   all_keep (suc at) [] new asked = absurd asked
   all_keep (suc at) (u ∷ us) [] asked = absurd asked
   all_keep (suc at) (u ∷ us) (z ∷ zs) asked = (asked.0.keeps, all_keep at us zs asked.1)

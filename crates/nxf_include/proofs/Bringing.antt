@@ -8,13 +8,13 @@ use Rattle.nxf_tree.specs.declared.tree.Body.{Body}
 use Rattle.nxf_tree.specs.declared.tree.Role.{Role}
 use Rattle.nxf_tree.specs.declared.tree.Statement.{Statement}
 use Rattle.nxf_tree.specs.declared.tree.Statement.TheVariants.{Annotated, Include}
-use Rattle.nxf_include.specs.Gathered.{Before, Brings, selected, Enters, Visits, Gathers}
-use Rattle.nxf_include.specs.Refusals.{Meets}
-use Rattle.nxf_include.specs.Roots.{Keeps, files_of}
-use Rattle.nxf_include.specs.Steps.{Step, Then}
-use Rattle.nxf_include.specs.declared.gather_error.GatherError.{GatherError}
-use Rattle.nxf_include.specs.declared.gather_error.GatherError.TheVariants.{Deep, Memory, ReadFault}
-use Rattle.nxf_include.specs.declared.reading.Visited.{Visited}
+use Rattle.syntax_definitions.specs.Gathered.{BroughtBefore, Brings, selected, Enters, Visits, Gathers}
+use Rattle.syntax_definitions.specs.Refusals.{Meets}
+use Rattle.nxf_include.specs.Roots.{KeepEach, files_of}
+use Rattle.syntax_definitions.specs.OneAfterAnother.{Step, Then}
+use Rattle.syntax_definitions.specs.declared.gather_error.GatherError.{GatherError}
+use Rattle.syntax_definitions.specs.declared.gather_error.GatherError.TheVariants.{Deep, Memory, ReadFault}
+use Rattle.syntax_definitions.specs.declared.visited.Visited.{Visited}
 use Rattle.nxf_include.proofs.Callers.{Keeps-files}
 use Rattle.nxf_include.proofs.Steps.{before_none, before_both, before_wider, before_end}
 
@@ -39,7 +39,7 @@ from_outside e (inr h) = inr (cc)
 
 -- The whole results in what was brought so far and then what the rest brings.
 abbrev pub Underway : Option Files → (Files → Step Visited) → ℕ → List Statement → ℕ → List Statement → Type 0
-Underway told Whole levels done sum rest = IfSome told (λ files. (result : Result Visited GatherError) → Before done (Brings (Visits files levels) sum rest) result → Whole files result)
+Underway told Whole levels done sum rest = IfSome told (λ files. (result : Result Visited GatherError) → BroughtBefore done (Brings (Visits files levels) sum rest) result → Whole files result)
 
 pub deep : (told : Option Files) (n sum : ℕ) (name : List ℕ) (e : GatherError) → n ≡ 0 → (e ≡ Deep name) ⊎ (e ≡ Memory) → Meets told (λ files. Visits files n sum name) (Err e)
 deep told n sum name e zero_left (inr k) = inr (inr (ap Err k))
@@ -49,7 +49,7 @@ deep (Some files) n sum name e zero_left (inl k) = inl (subst (λ n. Visits file
 pub begins : (told : Option Files) (n levels sum : ℕ) (name : List ℕ) (file : Visited) (done rest : List Statement) → n ≡ suc levels → done ≡ [] → rest ≡ file.statements → Meets told (λ files. Enters files sum name) (Ok file) → Underway told (λ files. Visits files n sum name) levels done file.sum rest
 begins None n levels sum name file done rest level none all m = tt
 begins (Some files) n levels sum name file done rest level none all m = λ result brought.
-    let here : Before [] (Brings (Visits files levels) file.sum rest) result = subst (λ xs. Before xs (Brings (Visits files levels) file.sum rest) result) none brought in
+    let here : BroughtBefore [] (Brings (Visits files levels) file.sum rest) result = subst (λ xs. BroughtBefore xs (Brings (Visits files levels) file.sum rest) result) none brought in
     let rests : Brings (Visits files levels) file.sum file.statements result = subst (λ xs. Brings (Visits files levels) file.sum xs result) all (before_none (Brings (Visits files levels) file.sum rest) result here) in
     subst (λ n. Visits files n sum name result) (sym level) (visits_below files levels sum name result (inl (file, met_ok (Some files) (λ files. Enters files sum name) file m, rests)))
 
@@ -59,32 +59,32 @@ begins_not None n levels sum name e level (inl h) = inl tt
 begins_not (Some files) n levels sum name e level (inl h) = inl (subst (λ n. Visits files n sum name (Err e)) (sym level) (visits_below files levels sum name (Err e) (inr (e, h, refl))))
 
 -- the same by the files from before
-pub met_first : {A : Type 0} (xs ys : List Shelf) (Answers : Files → Step A) (result : Result A GatherError) → Keeps xs ys → Meets (files_of ys) Answers result → Meets (files_of xs) Answers result
+pub met_first : {A : Type 0} (xs ys : List Shelf) (Answers : Files → Step A) (result : Result A GatherError) → KeepEach xs ys → Meets (files_of ys) Answers result → Meets (files_of xs) Answers result
 met_first xs ys Answers result keeps m = subst (λ told. Meets told Answers result) (Keeps-files xs ys keeps) m
 
 module _ (Whole : Files → Step Visited) (levels : ℕ) (done : List Statement) (sum : ℕ) (all rest : List Statement) where
   pub adds_annotated : (told : Option Files) (name : List ℕ) (role : Role) (body : Body) (now : List Statement) → Underway told Whole levels done sum all → all ≡ Annotated name role body ∷ rest → now ≡ done ++ Annotated name role body ∷ [] → Underway told Whole levels now sum rest
   adds_annotated None name role body now h a e = tt
   adds_annotated (Some files) name role body now h a e = λ result brought.
-      let here : Before (done ++ Annotated name role body ∷ []) (Brings (Visits files levels) sum rest) result = subst (λ xs. Before xs (Brings (Visits files levels) sum rest) result) e brought in
-      h result (subst (λ xs. Before done (Brings (Visits files levels) sum xs) result) (sym a) (before_both done (Annotated name role body ∷ []) (Brings (Visits files levels) sum rest) result here))
+      let here : BroughtBefore (done ++ Annotated name role body ∷ []) (Brings (Visits files levels) sum rest) result = subst (λ xs. BroughtBefore xs (Brings (Visits files levels) sum rest) result) e brought in
+      h result (subst (λ xs. BroughtBefore done (Brings (Visits files levels) sum xs) result) (sym a) (before_both done (Annotated name role body ∷ []) (Brings (Visits files levels) sum rest) result here))
 
   pub ends : (told : Option Files) → Underway told Whole levels done sum all → all ≡ [] → Meets told Whole (Ok (record { statements = done; sum = sum }))
   ends None h a = inl tt
-  ends (Some files) h a = inl (h (Ok (record { statements = done; sum = sum })) (subst (λ xs. Before done (Brings (Visits files levels) sum xs) (Ok (record { statements = done; sum = sum }))) (sym a) (before_end done sum)))
+  ends (Some files) h a = inl (h (Ok (record { statements = done; sum = sum })) (subst (λ xs. BroughtBefore done (Brings (Visits files levels) sum xs) (Ok (record { statements = done; sum = sum }))) (sym a) (before_end done sum)))
 
   module _ (file : List ℕ) (names : Option (List (List ℕ))) where
     -- the first statement is an include: what the rest brings, by the part that it brings
-    at_include : (files : Files) (result : Result Visited GatherError) → Underway (Some files) Whole levels done sum all → all ≡ Include file names ∷ rest → Before done (Brings (Visits files levels) sum (Include file names ∷ rest)) result → Whole files result
-    at_include files result h a brought = h result (subst (λ xs. Before done (Brings (Visits files levels) sum xs) result) (sym a) brought)
+    at_include : (files : Files) (result : Result Visited GatherError) → Underway (Some files) Whole levels done sum all → all ≡ Include file names ∷ rest → BroughtBefore done (Brings (Visits files levels) sum (Include file names ∷ rest)) result → Whole files result
+    at_include files result h a brought = h result (subst (λ xs. BroughtBefore done (Brings (Visits files levels) sum xs) result) (sym a) brought)
 
     pub adds_included : (told : Option Files) (part : Visited) (kept now : List Statement) → Underway told Whole levels done sum all → all ≡ Include file names ∷ rest → Meets told (λ files. Visits files levels sum file) (Ok part) → selected file names part.statements ≡ Ok kept → now ≡ done ++ kept → Underway told Whole levels now part.sum rest
     adds_included None part kept now h a m k e = tt
     adds_included (Some files) part kept now h a m k e = λ result brought.
         let Rest : Step Visited = Brings (Visits files levels) part.sum rest in
-        let here : Before (done ++ kept) Rest result = subst (λ xs. Before xs Rest result) e brought in
+        let here : BroughtBefore (done ++ kept) Rest result = subst (λ xs. BroughtBefore xs Rest result) e brought in
         at_include files result h a
-        (before_wider done (Before kept Rest) (Brings (Visits files levels) sum (Include file names ∷ rest))
+        (before_wider done (BroughtBefore kept Rest) (Brings (Visits files levels) sum (Include file names ∷ rest))
         (λ r b. inl (part, met_ok (Some files) (λ files. Visits files levels sum file) part m, inl (kept, sym k, b)))
         result (before_both done kept Rest result here))
 

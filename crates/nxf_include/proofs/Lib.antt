@@ -1,13 +1,9 @@
 pub mod Asked
 pub mod Bringing
 pub mod Callers
-pub mod ExactlyOne
-pub mod OneGathering
+pub mod OneFile
 pub mod Over
 pub mod Promising
-pub mod OneFile
 pub mod Refusing
 pub mod Selecting
-pub mod SomeGathering
-pub mod SomeReading
 pub mod Steps

@@ -5,13 +5,13 @@ use mathlib.Core.Logic.{inl, inr}
 use Rattle.std.proofs.lemmas.Bool.{le-leb}
 use Rattle.nxf_base.specs.Files.{Files}
 use Rattle.nxf_tree.specs.declared.tree.Statement.{Statement}
-use Rattle.nxf_include.specs.Gathered.{Reads, counted, ReadsCounted, Enters}
-use Rattle.nxf_include.specs.Loading.{loaded}
-use Rattle.nxf_include.specs.Refusals.{Refuses, Meets}
-use Rattle.nxf_include.specs.Steps.{Step}
-use Rattle.nxf_include.specs.declared.gather_error.GatherError.{GatherError}
-use Rattle.nxf_include.specs.declared.gather_error.GatherError.TheVariants.{Memory}
-use Rattle.nxf_include.specs.declared.reading.Visited.{Visited}
+use Rattle.syntax_definitions.specs.Gathered.{Reads, counted, ReadsCounted, Enters}
+use Rattle.syntax_definitions.specs.Loading.{loaded}
+use Rattle.syntax_definitions.specs.Refusals.{Refuses, Meets}
+use Rattle.syntax_definitions.specs.OneAfterAnother.{Step}
+use Rattle.syntax_definitions.specs.declared.gather_error.GatherError.{GatherError}
+use Rattle.syntax_definitions.specs.declared.gather_error.GatherError.TheVariants.{Memory}
+use Rattle.syntax_definitions.specs.declared.visited.Visited.{Visited}
 
 -- a result of the step, or want of memory
 abbrev pub IsOrMemory : {A : Type 0} → Step A → Result A GatherError → Type 0

@@ -2,18 +2,18 @@
 use Rattle.std.proofs.Common.{◌≡◌, ℕ, ◌+◌, ◌*◌, ◌≤◌, Bool, true, false, List, [], ◌∷◌, ◌++◌, Option, None, Some, Ok, refl, sym, ap, subst, arith}
 use Rattle.std.specs.List.{filter, list_all}
 use Rattle.std.proofs.lemmas.Bool.{and_parts, and_from}
-use Rattle.nxf_signs.specs.declared.sign.Profile.TheVariants.{Problem}
+use Rattle.nxf_tree.specs.declared.profile.Profile.TheVariants.{Problem}
 use Rattle.nxf_tree.specs.declared.tree.Body.{Body}
 use Rattle.nxf_tree.specs.declared.tree.Role.{Role}
 use Rattle.nxf_tree.specs.declared.tree.Statement.{Statement}
 use Rattle.nxf_tree.specs.declared.tree.Statement.TheVariants.{Annotated}
 use Rattle.nxf_tree.specs.FileDepth.{statement_list_depth}
 use Rattle.nxf_tree.specs.Weight.{statement_list_weight}
-use Rattle.nxf_statements.specs.Regular.{is_regular_statement}
-use Rattle.nxf_grammar.specs.Profiles.{allowed_in, any_allowed, greatest_nesting, levels_of}
-use Rattle.nxf_grammar.specs.Levels.{statement_list_levels}
-use Rattle.nxf_include.specs.Gathered.{selected, unless_missing, first_missing, is_listed}
-use Rattle.nxf_include.specs.Promises.{is_no_include, IsFine, IsFineStatement, AreRead, AreFine}
+use Rattle.nxf_tree.specs.Regular.{is_regular_statement}
+use Rattle.nxf_tree.specs.Profiles.{allowed_in, any_allowed, greatest_nesting, levels_of}
+use Rattle.syntax_definitions.specs.Levels.{statement_list_levels}
+use Rattle.syntax_definitions.specs.Gathered.{selected, unless_missing, first_missing, is_listed}
+use Rattle.syntax_definitions.specs.Promises.{is_no_include, IsFine, IsFineStatement, AreReadStatements, AreFine}
 
 -- ---- a file that is read
 
@@ -21,7 +21,7 @@ pub problem_depth : (d : ℕ) → d ≤ 2 * greatest_nesting Problem + 1 → d �
 unfolding greatest_nesting
 problem_depth d h = h
 
-pub read_statements : (ss : List Statement) → list_all (is_regular_statement any_allowed) ss ≡ true → list_all (is_regular_statement (allowed_in Problem)) ss ≡ true → statement_list_depth ss ≤ 2001 → statement_list_levels ss ≤ levels_of Problem → AreRead ss
+pub read_statements : (ss : List Statement) → list_all (is_regular_statement any_allowed) ss ≡ true → list_all (is_regular_statement (allowed_in Problem)) ss ≡ true → statement_list_depth ss ≤ 2001 → statement_list_levels ss ≤ levels_of Problem → AreReadStatements ss
 read_statements [] r a d l = tt
 read_statements (s ∷ ss) r a d l =
     let rs = and_parts (is_regular_statement any_allowed s) (list_all (is_regular_statement any_allowed) ss) r in
@@ -55,13 +55,13 @@ weight_filter p [] = omega arith
 weight_filter p (s ∷ ss) = weight_kept p s ss (p s) refl (weight_filter p ss)
 
 -- an annotated statement is added, which was the next
-pub annotated_fine : (done now all rest : List Statement) (name : List ℕ) (role : Role) (body : Body) → now ≡ done ++ Annotated name role body ∷ [] → all ≡ Annotated name role body ∷ rest → AreFine done → AreRead all → AreFine now
+pub annotated_fine : (done now all rest : List Statement) (name : List ℕ) (role : Role) (body : Body) → now ≡ done ++ Annotated name role body ∷ [] → all ≡ Annotated name role body ∷ rest → AreFine done → AreReadStatements all → AreFine now
 annotated_fine done now all rest name role body e a f r =
-    let rs : AreRead (Annotated name role body ∷ rest) = subst AreRead a r in
+    let rs : AreReadStatements (Annotated name role body ∷ rest) = subst AreReadStatements a r in
     subst AreFine (sym e) (fine_both done (Annotated name role body ∷ []) f (record { read = rs.0; no_include = refl }, tt))
 
-pub rest_read : (all rest : List Statement) (s : Statement) → all ≡ s ∷ rest → AreRead all → AreRead rest
-rest_read all rest s a r = (subst AreRead a r).1
+pub rest_read : (all rest : List Statement) (s : Statement) → all ≡ s ∷ rest → AreReadStatements all → AreReadStatements rest
+rest_read all rest s a r = (subst AreReadStatements a r).1
 
 pub annotated_weight : (base sum : ℕ) (done now all rest : List Statement) (s : Statement) → now ≡ done ++ s ∷ [] → all ≡ s ∷ rest → base + statement_list_weight done + statement_list_weight all ≤ sum → base + statement_list_weight now + statement_list_weight rest ≤ sum
 annotated_weight base sum done now all rest s e a h = omega (arith, h, ap statement_list_weight e, ap statement_list_weight a, weight_both done (s ∷ []))

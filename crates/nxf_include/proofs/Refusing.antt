@@ -5,10 +5,10 @@ use mathlib.Core.Logic.{inl, inr}
 use Rattle.std.proofs.lemmas.List.{length-take, take_all}
 use Rattle.std.proofs.lemmas.Bool.{le-leb, lt-leb}
 use Rattle.nxf_base.specs.Files.{Files, file_of}
-use Rattle.nxf_include.specs.Loading.{loaded, within}
-use Rattle.nxf_include.specs.Refusals.{Refuses}
-use Rattle.nxf_include.specs.declared.gather_error.GatherError.{GatherError}
-use Rattle.nxf_include.specs.declared.gather_error.GatherError.TheVariants.{TooLong, Memory}
+use Rattle.syntax_definitions.specs.Loading.{loaded, within}
+use Rattle.syntax_definitions.specs.Refusals.{Refuses}
+use Rattle.syntax_definitions.specs.declared.gather_error.GatherError.{GatherError}
+use Rattle.syntax_definitions.specs.declared.gather_error.GatherError.TheVariants.{TooLong, Memory}
 
 -- the refusal that is the defined one, or want of memory
 pub refuses : {A : Type 0} (told : Option Files) (answer : Files → Result A GatherError) (refusal e : GatherError) → IfSome told (λ files. answer files ≡ Err refusal) → (e ≡ refusal) ⊎ (e ≡ Memory) → Refuses told answer e

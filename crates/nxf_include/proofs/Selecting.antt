@@ -10,27 +10,20 @@ use Rattle.nxf_tree.specs.Counting.{has}
 use Rattle.nxf_tree.specs.Names.{same_text}
 use Rattle.nxf_tree.specs.declared.tree.Statement.{Statement}
 use Rattle.nxf_tree.specs.declared.tree.Statement.TheVariants.{Annotated, Include}
-use Rattle.nxf_include.specs.Gathered.{is_named, is_listed, first_missing, unless_missing, selected}
-use Rattle.nxf_include.specs.declared.gather_error.GatherError.{GatherError}
-use Rattle.nxf_include.specs.declared.gather_error.GatherError.TheVariants.{NoSuchName, Memory}
+use Rattle.syntax_definitions.specs.Gathered.{has_name, is_listed, first_missing, unless_missing, selected}
+use Rattle.syntax_definitions.specs.declared.gather_error.GatherError.{GatherError}
+use Rattle.syntax_definitions.specs.declared.gather_error.GatherError.TheVariants.{NoSuchName, Memory}
 
 -- ---- the first name that no statement has
 
 module _ (ss : List Statement) (names : List (List ℕ)) (i : ℕ) where
-  pub missing_here : (d : List ℕ) → i < length names → list_any (is_named (get_or names i d)) ss ≡ false → first_missing (drop i names) ss ≡ Some (get_or names i d)
+  pub missing_here : (d : List ℕ) → i < length names → list_any (has_name (get_or names i d)) ss ≡ false → first_missing (drop i names) ss ≡ Some (get_or names i d)
   missing_here d l h = ap (λ ns. first_missing ns ss) (drop-cons names i d l) ∙ ap (λ b. if b then first_missing (drop (suc i) names) ss else Some (get_or names i d)) h
 
-  pub missing_later : (d : List ℕ) → i < length names → list_any (is_named (get_or names i d)) ss ≡ true → first_missing (drop i names) ss ≡ first_missing (drop (suc i) names) ss
+  pub missing_later : (d : List ℕ) → i < length names → list_any (has_name (get_or names i d)) ss ≡ true → first_missing (drop i names) ss ≡ first_missing (drop (suc i) names) ss
   missing_later d l h = ap (λ ns. first_missing ns ss) (drop-cons names i d l) ∙ ap (λ b. if b then first_missing (drop (suc i) names) ss else Some (get_or names i d)) h
 
 -- ---- sets of names
-
-pub has_next : (x : List ℕ) (names : List (List ℕ)) (i : ℕ) (d : List ℕ) (old new b : Bool) → i < length names → new ≡ (old || same_text (get_or names i d) x) → (old || has same_text x (drop i names)) ≡ b → (new || has same_text x (drop (suc i) names)) ≡ b
-has_next x names i d old new b l n h =
-    ap (λ a. a || has same_text x (drop (suc i) names)) n
-    ∙ or_assoc old (same_text (get_or names i d) x) (has same_text x (drop (suc i) names))
-    ∙ ap (λ ns. old || has same_text x ns) (sym (drop-cons names i d l))
-    ∙ h
 
 module _ (p q : Statement → Bool) (s : Statement) (rest all : List Statement) (is : all ≡ s ∷ rest) where
   pub kept_first : p s ≡ true → filter p all ≡ s ∷ filter p rest
@@ -69,7 +62,7 @@ or_true : (a : Bool) → (a || true) ≡ true
 or_true true = refl
 or_true false = refl
 
-named_listed : (names : List (List ℕ)) (name : List ℕ) (s : Statement) → is_named name s ≡ true → is_listed names s ≡ has same_text name names
+named_listed : (names : List (List ℕ)) (name : List ℕ) (s : Statement) → has_name name s ≡ true → is_listed names s ≡ has same_text name names
 named_listed names name (Annotated own role body) h = ap (λ x. has same_text x names) ((bytes_decides own name).0 h)
 named_listed names name (Include file among) h = absurd (cc)
 
@@ -77,9 +70,9 @@ none_lost : (names ns : List (List ℕ)) (ss : List Statement) → ((n : List �
 none_lost names [] ss h = refl
 none_lost names (n ∷ ns) ss h =
     let listed : has same_text n names ≡ true = h n (same_first n ns) in
-    let any : list_any (is_named n) (filter (is_listed names) ss) ≡ list_any (is_named n) ss = any-filter_same (is_named n) (is_listed names) true (λ s k. named_listed names n s k ∙ listed) ss in
+    let any : list_any (has_name n) (filter (is_listed names) ss) ≡ list_any (has_name n) ss = any-filter_same (has_name n) (is_listed names) true (λ s k. named_listed names n s k ∙ listed) ss in
     ap (λ b. if b then first_missing ns (filter (is_listed names) ss) else Some n) any
-    ∙ ap (λ o. if list_any (is_named n) ss then o else Some n)
+    ∙ ap (λ o. if list_any (has_name n) ss then o else Some n)
     (none_lost names ns ss (λ m k. h m (ap (λ b. same_text n m || b) k ∙ or_true (same_text n m))))
 
 missing_kept : (names : List (List ℕ)) (ss : List Statement) → first_missing names (filter (is_listed names) ss) ≡ first_missing names ss

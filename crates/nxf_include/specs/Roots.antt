@@ -27,10 +27,10 @@ files_of [] = Some files.empty
 files_of (shelf ∷ shelves) = over_told shelf.files (files_of shelves)
 
 -- every library tells the files that it told, and no count fell
-abbrev pub Keeps : List Shelf → List Shelf → Type 0
-Keeps [] [] = Unit {0}
-Keeps (x ∷ xs) (y ∷ ys) = one.Keeps x y × Keeps xs ys
-Keeps _ _ = ⊥
+abbrev pub KeepEach : List Shelf → List Shelf → Type 0
+KeepEach [] [] = Unit {0}
+KeepEach (x ∷ xs) (y ∷ ys) = one.Keeps x y × KeepEach xs ys
+KeepEach _ _ = ⊥
 
 -- the count of faults of some library rose
 abbrev pub SomeFaultRose : List Shelf → List Shelf → Type 0

@@ -1,18 +1,19 @@
 //! A file with all that it includes.
 ghost use Rattle.std.specs.Prelude.{◌≡◌, ◌≤◌, ◌+◌, Err, IfOk, length, map};
 ghost use Rattle.nxf_tree.specs.Weight.{statement_list_weight};
-ghost use Rattle.nxf_include.specs.Roots.{files_of, shelves_of, Keeps, SomeFaultRose, EachMissRose};
-ghost use Rattle.nxf_include.specs.Gathered.{Visits, Gathers};
-ghost use Rattle.nxf_include.specs.Promises.{IsFine, AreFine};
-ghost use Rattle.nxf_include.specs.Refusals.{Meets, OnNoFile};
+ghost use Rattle.nxf_include.specs.Roots.{files_of, shelves_of, KeepEach, SomeFaultRose, EachMissRose};
+ghost use Rattle.syntax_definitions.specs.Gathered.{Visits, Gathers};
+ghost use Rattle.syntax_definitions.specs.Promises.{IsFine, AreFine};
+ghost use Rattle.syntax_definitions.specs.Refusals.{Meets, OnNoFile};
 
 use crate::gather_error::deep;
-use crate::reading::{Visited, enter};
+use crate::reading::enter;
 use crate::selection::{add, add_selected};
 use crate::{GatherError, Roots};
 use nxf_base::{Library, List, Memory, Text};
 use nxf_tree::{File, Statement};
 use std::alloc::Global;
+use syntax_definitions::Visited;
 
 /// How many levels of files there may be: includes may be sixteen deep.
 const LEVELS: u32 = 17;
@@ -25,7 +26,7 @@ pub fn gather(alloc: Global, roots: &mut Roots, name: &Text) -> Result<File, Gat
     ensures fine { IfOk result (λ file. IsFine file) }
     ensures no_file { OnNoFile result (EachMissRose (shelves_of shelf roots.old) (shelves_of shelf roots.new)) }
     ensures read_fault { result ≡ Err GatherError.ReadFault → SomeFaultRose (shelves_of shelf roots.old) (shelves_of shelf roots.new) }
-    ensures keeps { Keeps (shelves_of shelf roots.old) (shelves_of shelf roots.new) }
+    ensures keeps { KeepEach (shelves_of shelf roots.old) (shelves_of shelf roots.new) }
 {
     gather_from(alloc, &mut roots.libraries, name)
 }
@@ -40,7 +41,7 @@ pub fn gather_from<L: Library>(
     ensures fine { IfOk result (λ file. IsFine file) }
     ensures no_file { OnNoFile result (EachMissRose (map L.shelf libraries.old) (map L.shelf libraries.new)) }
     ensures read_fault { result ≡ Err GatherError.ReadFault → SomeFaultRose (map L.shelf libraries.old) (map L.shelf libraries.new) }
-    ensures keeps { Keeps (map L.shelf libraries.old) (map L.shelf libraries.new) }
+    ensures keeps { KeepEach (map L.shelf libraries.old) (map L.shelf libraries.new) }
 {
     match visit(alloc, libraries, name, LEVELS, 0) {
         Ok(whole) => Ok(File {
@@ -64,7 +65,7 @@ fn visit<L: Library>(
     ensures counts { IfOk result (λ whole. (whole.sum ≤ 67108864) × (sum + statement_list_weight whole.statements ≤ whole.sum)) }
     ensures no_file { OnNoFile result (EachMissRose (map L.shelf libraries.old) (map L.shelf libraries.new)) }
     ensures read_fault { result ≡ Err GatherError.ReadFault → SomeFaultRose (map L.shelf libraries.old) (map L.shelf libraries.new) }
-    ensures keeps { Keeps (map L.shelf libraries.old) (map L.shelf libraries.new) }
+    ensures keeps { KeepEach (map L.shelf libraries.old) (map L.shelf libraries.new) }
 {
     if levels == 0 {
         return Err(deep(alloc, name));

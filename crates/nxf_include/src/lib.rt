@@ -4,14 +4,12 @@
 
 mod gather_error;
 mod gathering;
-mod laws;
 mod loading;
 mod reading;
 mod roots;
 mod selection;
 
-pub use gather_error::GatherError;
 pub use gathering::{gather, gather_from};
-pub use laws::{one_gathering, one_reading, some_reading};
 pub use loading::{load_one, load_one_from};
 pub use roots::{Roots, load_first};
+pub use syntax_definitions::GatherError;

@@ -1,8 +1,8 @@
 //! The bytes of one file.
 ghost use Rattle.std.specs.Prelude.{◌≡◌, ◌≤◌, Err, IfOk, IfErr, IfSome, Ok, MatchResult, length, map};
-ghost use Rattle.nxf_include.specs.Roots.{files_of, shelves_of, Keeps, SomeFaultRose, EachMissRose};
-ghost use Rattle.nxf_include.specs.Loading.{loaded};
-ghost use Rattle.nxf_include.specs.Refusals.{IsOfLoading, OnNoFile, Refuses};
+ghost use Rattle.nxf_include.specs.Roots.{files_of, shelves_of, KeepEach, SomeFaultRose, EachMissRose};
+ghost use Rattle.syntax_definitions.specs.Loading.{loaded};
+ghost use Rattle.syntax_definitions.specs.Refusals.{IsOfLoading, OnNoFile, Refuses};
 
 use crate::gather_error::{no_file, too_long};
 use crate::{GatherError, Roots, load_first};
@@ -23,7 +23,7 @@ pub fn load_one(alloc: Global, roots: &mut Roots, name: &Text) -> Result<Vec<u8>
     ensures only { IfErr result IsOfLoading }
     ensures no_file { OnNoFile result (EachMissRose (shelves_of shelf roots.old) (shelves_of shelf roots.new)) }
     ensures read_fault { result ≡ Err GatherError.ReadFault → SomeFaultRose (shelves_of shelf roots.old) (shelves_of shelf roots.new) }
-    ensures keeps { Keeps (shelves_of shelf roots.old) (shelves_of shelf roots.new) }
+    ensures keeps { KeepEach (shelves_of shelf roots.old) (shelves_of shelf roots.new) }
 {
     load_one_from(alloc, &mut roots.libraries, name)
 }
@@ -41,7 +41,7 @@ pub fn load_one_from<L: Library>(
     ensures only { IfErr result IsOfLoading }
     ensures no_file { OnNoFile result (EachMissRose (map L.shelf libraries.old) (map L.shelf libraries.new)) }
     ensures read_fault { result ≡ Err GatherError.ReadFault → SomeFaultRose (map L.shelf libraries.old) (map L.shelf libraries.new) }
-    ensures keeps { Keeps (map L.shelf libraries.old) (map L.shelf libraries.new) }
+    ensures keeps { KeepEach (map L.shelf libraries.old) (map L.shelf libraries.new) }
 {
     let mut bytes = Vec::new(alloc);
     match load_first(libraries, name, FILE_LIMIT, &mut bytes) {

@@ -1,10 +1,10 @@
 //! The statements that stand in one file.
 ghost use Rattle.std.specs.Prelude.{◌≡◌, ◌≤◌, ◌+◌, ◌⊎◌, Err, IfOk, length, map};
 ghost use Rattle.nxf_tree.specs.Weight.{statement_list_weight};
-ghost use Rattle.nxf_include.specs.Roots.{files_of, Keeps, SomeFaultRose, EachMissRose};
-ghost use Rattle.nxf_include.specs.Gathered.{Reads, ReadsCounted, Enters};
-ghost use Rattle.nxf_include.specs.Promises.{AreRead};
-ghost use Rattle.nxf_include.specs.Refusals.{Meets, OnNoFile};
+ghost use Rattle.nxf_include.specs.Roots.{files_of, KeepEach, SomeFaultRose, EachMissRose};
+ghost use Rattle.syntax_definitions.specs.Gathered.{Reads, ReadsCounted, Enters};
+ghost use Rattle.syntax_definitions.specs.Promises.{AreReadStatements};
+ghost use Rattle.syntax_definitions.specs.Refusals.{Meets, OnNoFile};
 
 use crate::gather_error::{not_lexed, not_read};
 use crate::{GatherError, load_one_from};
@@ -12,17 +12,11 @@ use nxf_base::{Library, List, Text};
 use nxf_grammar::{GrammarError, Profile, read_file};
 use nxf_tree::Statement;
 use std::alloc::Global;
+use syntax_definitions::Visited;
 use tptp_lex::{LexError, lex, no_more_tokens_than_bytes};
 
 /// The greatest length of all files together.
 const SUM_LIMIT: u64 = 67_108_864;
-
-/// Statements, and the length of all files that were loaded for them and before them.
-#[derive(Debug, Drop)]
-pub struct Visited {
-    pub statements: List<Statement>,
-    pub sum: u64,
-}
 
 /// The statements of one file as they stand in it, with its length added to the sum.
 pub fn enter<L: Library>(
@@ -33,11 +27,11 @@ pub fn enter<L: Library>(
 ) -> Result<Visited, GatherError>
     requires { sum ≤ 67108864 }
     ensures answers { Meets (files_of (map L.shelf libraries.old)) (λ files. Enters files sum name.now) result }
-    ensures read { IfOk result (λ file. AreRead file.statements) }
+    ensures read { IfOk result (λ file. AreReadStatements file.statements) }
     ensures counts { IfOk result (λ file. (file.sum ≤ 67108864) × (sum + statement_list_weight file.statements ≤ file.sum)) }
     ensures no_file { OnNoFile result (EachMissRose (map L.shelf libraries.old) (map L.shelf libraries.new)) }
     ensures read_fault { result ≡ Err GatherError.ReadFault → SomeFaultRose (map L.shelf libraries.old) (map L.shelf libraries.new) }
-    ensures keeps { Keeps (map L.shelf libraries.old) (map L.shelf libraries.new) }
+    ensures keeps { KeepEach (map L.shelf libraries.old) (map L.shelf libraries.new) }
 {
     match load_one_from(alloc, libraries, name) {
         Ok(bytes) => read_counted(alloc, name, sum, &bytes),
@@ -50,7 +44,7 @@ fn read_counted(alloc: Global, name: &Text, sum: u64, bytes: &[u8]) -> Result<Vi
     requires sum { sum ≤ 67108864 }
     requires bytes { length bytes.now ≤ 16777216 }
     ensures answers { ReadsCounted name.now sum bytes.now result ⊎ (result ≡ Err GatherError.Memory) }
-    ensures read { IfOk result (λ file. AreRead file.statements) }
+    ensures read { IfOk result (λ file. AreReadStatements file.statements) }
     ensures counts { IfOk result (λ file. (file.sum ≤ 67108864) × (sum + statement_list_weight file.statements ≤ file.sum)) }
 {
     let sum = sum + bytes.len() as u64;
@@ -67,7 +61,7 @@ fn read_counted(alloc: Global, name: &Text, sum: u64, bytes: &[u8]) -> Result<Vi
 fn read(alloc: Global, name: &Text, bytes: &[u8]) -> Result<List<Statement>, GatherError>
     requires { length bytes.now ≤ 16777216 }
     ensures answers { Reads name.now bytes.now result ⊎ (result ≡ Err GatherError.Memory) }
-    ensures read { IfOk result (λ statements. AreRead statements) }
+    ensures read { IfOk result (λ statements. AreReadStatements statements) }
     ensures weight { IfOk result (λ statements. statement_list_weight statements ≤ length bytes.now) }
 {
     no_more_tokens_than_bytes();

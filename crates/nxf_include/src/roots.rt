@@ -1,7 +1,7 @@
 //! A list of libraries that the caller made, asked in order.
 ghost use Rattle.std.specs.Prelude.{◌≡◌, ◌↔◌, ℕ, ◌-◌, ◌<◌, ◌^◌, ◌++◌, [], ◌∷◌, length, map, take, slice_get, Some, OnOk, OnErr, IfErr, IsTrue, Ok, IsErrOf};
 ghost use Rattle.nxf_base.specs.Load.{Loads};
-ghost use Rattle.nxf_include.specs.Roots.{files_of, shelves_of, Keeps, SomeFaultRose, EachMissRose};
+ghost use Rattle.nxf_include.specs.Roots.{files_of, shelves_of, KeepEach, SomeFaultRose, EachMissRose};
 
 use nxf_base::{BoxedLibrary, Found, Library, LoadError, Refused, Text};
 use std::alloc::Global;
@@ -22,7 +22,7 @@ impl Roots {
     }
 
     /// Adds a library that is asked after the others. Where no memory is found it is handed back.
-    pub fn push(&mut self, library: Boxed) -> Result<(), Refused<Boxed>>
+    pub fn push(&mut self, library: BoxedLibrary) -> Result<(), Refused<BoxedLibrary>>
         ensures ok { OnOk result (self.new.libraries.items ≡ self.old.libraries.items ++ library ∷ []) }
         ensures err { OnErr result (self.new.libraries.items ≡ self.old.libraries.items) }
         ensures back { IfErr result (λ refused. refused.back ≡ library) }
@@ -51,7 +51,7 @@ impl Roots {
     pub fn load(&mut self, name: &Text, limit: u64, into: &mut Vec<u8>) -> Result<Found, LoadError>
         requires { limit < 2 ^ 32 }
         ensures loads { Loads (files_of (shelves_of shelf self.old)) name.now limit result into.old.items into.new.items }
-        ensures keeps { Keeps (shelves_of shelf self.old) (shelves_of shelf self.new) }
+        ensures keeps { KeepEach (shelves_of shelf self.old) (shelves_of shelf self.new) }
         ensures fault { IsErrOf result LoadError.Fault → SomeFaultRose (shelves_of shelf self.old) (shelves_of shelf self.new) }
         ensures absent { result ≡ Ok Found.Absent → EachMissRose (shelves_of shelf self.old) (shelves_of shelf self.new) }
     {
@@ -84,7 +84,7 @@ pub fn load_first<L: Library>(
 ) -> Result<Found, LoadError>
     requires { limit < 2 ^ 32 }
     ensures loads { Loads (files_of (map L.shelf libraries.old)) name.now limit result into.old.items into.new.items }
-    ensures keeps { Keeps (map L.shelf libraries.old) (map L.shelf libraries.new) }
+    ensures keeps { KeepEach (map L.shelf libraries.old) (map L.shelf libraries.new) }
     ensures fault { IsErrOf result LoadError.Fault → SomeFaultRose (map L.shelf libraries.old) (map L.shelf libraries.new) }
     ensures absent { result ≡ Ok Found.Absent → EachMissRose (map L.shelf libraries.old) (map L.shelf libraries.new) }
 {

@@ -5,7 +5,7 @@ ghost use Rattle.indexmap.specs.IndexSet.{contains};
 ghost use Rattle.nxf_tree.specs.declared.tree.Statement.{Statement};
 ghost use Rattle.nxf_tree.specs.Counting.{has};
 ghost use Rattle.nxf_tree.specs.Names.{same_text};
-ghost use Rattle.nxf_include.specs.Gathered.{is_named, is_listed, first_missing, selected};
+ghost use Rattle.syntax_definitions.specs.Gathered.{has_name, is_listed, first_missing, selected};
 
 use crate::GatherError;
 use crate::gather_error::no_such_name;
@@ -68,7 +68,7 @@ fn add_listed(
     statements: List<Statement>,
 ) -> Result<IndexSet<Text>, Memory>
     ensures added { OnOk result (into.new ≡ into.old ++ filter (is_listed names.now) statements) }
-    ensures found { IfOk result (λ found. (name : List ℕ) → contains same_text found name ≡ list_any (is_named name) (filter (is_listed names.now) statements)) }
+    ensures found { IfOk result (λ found. (name : List ℕ) → contains same_text found name ≡ list_any (has_name name) (filter (is_listed names.now) statements)) }
 {
     let listed = set_of(alloc, names)?;
     let mut found = IndexSet::new(alloc);
@@ -90,7 +90,7 @@ fn keep(
     statement: Statement,
 ) -> Result<(), Memory>
     ensures added { OnOk result (into.new ≡ into.old ++ statement ∷ []) }
-    ensures found { OnOk result ((name : List ℕ) → contains same_text found.new name ≡ (contains same_text found.old name || is_named name statement)) }
+    ensures found { OnOk result ((name : List ℕ) → contains same_text found.new name ≡ (contains same_text found.old name || has_name name statement)) }
 {
     note_name(alloc, found, &statement)?;
     add(into, statement)
@@ -119,7 +119,7 @@ fn is_among(listed: &IndexSet<Text>, statement: &Statement) -> bool
 
 /// Adds the statement's name.
 fn note_name(alloc: Global, found: &mut IndexSet<Text>, statement: &Statement) -> Result<(), Memory>
-    ensures { OnOk result ((name : List ℕ) → contains same_text found.new name ≡ (contains same_text found.old name || is_named name statement.now)) }
+    ensures { OnOk result ((name : List ℕ) → contains same_text found.new name ≡ (contains same_text found.old name || has_name name statement.now)) }
 {
     match statement {
         Statement::Annotated { name, .. } => {
@@ -132,7 +132,7 @@ fn note_name(alloc: Global, found: &mut IndexSet<Text>, statement: &Statement) -
 
 /// The first of the names that isn't in the set.
 fn missing<'a>(found: &IndexSet<Text>, names: &'a [Text]) -> Option<&'a Text>
-    ensures { (statements : List Statement) → ((name : List ℕ) → contains same_text found.now name ≡ list_any (is_named name) statements)
+    ensures { (statements : List Statement) → ((name : List ℕ) → contains same_text found.now name ≡ list_any (has_name name) statements)
         → MatchOption result (first_missing names.now statements ≡ None) (λ name. first_missing names.now statements ≡ Some name.now) }
 {
     for name in names {

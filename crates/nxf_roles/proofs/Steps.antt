@@ -1,11 +1,10 @@
 -- The statements of a file, sorted one after another.
-use Rattle.std.proofs.Common.{◌≡◌, ℕ, suc, ◌+◌, ◌<◌, ◌≤◌, Bool, true, false, ◌||◌, List, [], ◌∷◌, ◌++◌, length, take, drop, get_or, Option, None, Some, Ok, Err, refl, sym, ap, ◌∙◌, add-one}
-use Rattle.std.proofs.Math.Seq.{drop-cons, take-suc}
+use Rattle.std.proofs.Common.{◌≡◌, ℕ, suc, ◌+◌, ◌<◌, ◌≤◌, Bool, true, false, ◌||◌, List, [], ◌∷◌, ◌++◌, length, take, drop, get_or, Option, None, Some, Ok, refl, sym, ap, ◌∙◌, add-one}
+use Rattle.std.proofs.Math.Seq.{take-suc}
 use Rattle.std.specs.List.{list_any}
 use Rattle.std.specs.Option.{option_or, option_map}
 use Rattle.std.proofs.lemmas.List.{drop_all, drop_more, append-nil, append_assoc}
 use Rattle.std.proofs.lemmas.List.Folds.{list_any-append}
-use Rattle.nxf_base.specs.declared.status.RoleKind.{RoleKind}
 use Rattle.nxf_tree.specs.declared.tree.PartEntry.{PartEntry}
 use Rattle.nxf_tree.specs.declared.tree.Part.{Part}
 use Rattle.nxf_tree.specs.declared.tree.Statement.{Statement}
@@ -18,22 +17,12 @@ pub record IsSorted (statements : List Statement) (at : ℕ) (entries : List Par
   pub entered : part_entries 1 statements ≡ entries ++ part_entries (at + 1) (drop at statements)
   pub has_conjecture : list_any (λ s. is_conjecture (statement_part s)) (take at statements) ≡ conjectured
 
-pub none_sorted : (statements : List Statement) → IsSorted statements 0 [] false
-none_sorted statements = record { faultless = refl; entered = refl; has_conjecture = refl }
-
 pub all_sorted : (statements : List Statement) (at : ℕ) (entries : List PartEntry) (conjectured : Bool) → IsSorted statements at entries conjectured → length statements ≤ at → unless (first_fault role_fault 1 [] statements) (part_entries 1 statements) ≡ Ok entries
 all_sorted statements at entries conjectured sorted all =
     let nothing : drop at statements ≡ [] = drop_all at statements all in
     let fine : first_fault role_fault 1 [] statements ≡ None = sorted.faultless ∙ ap (first_fault role_fault (at + 1) (take at statements)) nothing in
     let whole : part_entries 1 statements ≡ entries = sorted.entered ∙ ap (λ rest. entries ++ part_entries (at + 1) rest) nothing ∙ append-nil entries in
     rw (fine, whole) refl
-
-pub refused_next : (statements : List Statement) (at : ℕ) (entries : List PartEntry) (conjectured : Bool) (d : Statement) (kind : RoleKind) → IsSorted statements at entries conjectured → at < length statements → role_fault (take at statements) (get_or statements at d) ≡ Some kind → unless (first_fault role_fault 1 [] statements) (part_entries 1 statements) ≡ Err (at + 1, kind)
-refused_next statements at entries conjectured d kind sorted more fault =
-    let first : first_fault role_fault 1 [] statements ≡ Some (at + 1, kind) =
-    sorted.faultless ∙ ap (first_fault role_fault (at + 1) (take at statements)) (drop-cons statements at d more)
-    ∙ ap (λ found. option_or (option_map (λ k. (at + 1, k)) found) (first_fault role_fault (suc (at + 1)) (take at statements ++ get_or statements at d ∷ []) (drop (suc at) statements))) fault in
-    rw first refl
 
 one_more : (k : ℕ) (part : Option Part) (entries rest : List PartEntry) → entries ++ and_part k part rest ≡ (entries ++ and_part k part []) ++ rest
 one_more k None entries rest = ap (λ xs. xs ++ rest) (sym (append-nil entries))

@@ -1,3 +1,4 @@
+//! The parts of a problem, in the order of its file.
 ghost use Rattle.std.specs.Prelude.{◌≡◌, ◌<◌, length, slice_get, Some};
 
 use crate::PartEntry;

@@ -5,14 +5,14 @@ use Rattle.nxf_base.specs.Files.{Files}
 use Rattle.nxf_base.specs.declared.status.Status.{Status}
 use Rattle.nxf_base.specs.declared.status.Status.TheVariants as status
 use Rattle.nxf_tree.specs.declared.tree.File.{File}
-use Rattle.nxf_tree.specs.Profile.{Problem, Refusal, RefusedRole, RefusedSpec, RefusedSort, problem_in}
-use Rattle.nxf_include.specs.declared.gather_error.GatherError.{GatherError}
-use Rattle.nxf_include.specs.declared.gather_error.GatherError.TheVariants as gather
-use Rattle.nxf_include.specs.Gathered.{Gathers}
-use Rattle.nxf_include.specs.Refusals.{IsOfFiles}
-use Rattle.nxf_include.proofs.ExactlyOne.{exactly_one}
-use Rattle.nxf_include.proofs.OneGathering.{one_gathering}
-use Rattle.nxf_include.proofs.SomeGathering.{some_gathering, gathering_of_files}
+use Rattle.nxf_tree.specs.Profile.{Reading, Refusal, RefusedRole, RefusedSpec, RefusedSort, reading_of}
+use Rattle.syntax_definitions.specs.declared.gather_error.GatherError.{GatherError}
+use Rattle.syntax_definitions.specs.declared.gather_error.GatherError.TheVariants as gather
+use Rattle.syntax_definitions.specs.Gathered.{Gathers}
+use Rattle.syntax_definitions.specs.Refusals.{IsOfFiles}
+use Rattle.gathering_laws.proofs.ExactlyOne.{exactly_one}
+use Rattle.gathering_laws.proofs.OneGathering.{one_gathering}
+use Rattle.gathering_laws.proofs.SomeGathering.{some_gathering, gathering_of_files}
 use Rattle.nxf_run.specs.Forms.{Form, form_of, Embed, Later, NoForm}
 use Rattle.nxf_run.specs.Answer.{Answer, IsAnswer, Gathered, no_form, later, embeds, answer_to, answer_by, status_of_refusal}
 
@@ -68,12 +68,12 @@ of_refusal (RefusedRole kind place) = tt
 of_refusal (RefusedSpec kind) = tt
 of_refusal (RefusedSort kind place name) = tt
 
-of_profile : (file : File) (outcome : Result Problem Refusal) → IsKnown (answer_by file outcome)
+of_profile : (file : File) (outcome : Result Reading Refusal) → IsKnown (answer_by file outcome)
 of_profile file (Ok problem) = tt
 of_profile file (Err refusal) = of_refusal refusal
 
 pub of_files : (outcome : Result File GatherError) → IsOfFiles outcome → IsKnown (answer_to outcome)
-of_files (Ok file) o = of_profile file (problem_in file)
+of_files (Ok file) o = of_profile file (reading_of file)
 of_files (Err (gather.NoFile name)) o = tt
 of_files (Err gather.ReadFault) o = absurd o
 of_files (Err (gather.TooLong name)) o = tt

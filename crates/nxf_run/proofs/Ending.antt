@@ -9,11 +9,11 @@ use Rattle.nxf_base.specs.Shelf.{Shelf}
 use Rattle.nxf_base.specs.Write.{Appends}
 use Rattle.nxf_base.specs.declared.status.Status.{Status}
 use Rattle.nxf_base.specs.declared.status.Status.TheVariants as status
-use Rattle.nxf_include.specs.Roots.{files_of, Keeps, SomeFaultRose, EachMissRose}
+use Rattle.nxf_include.specs.Roots.{files_of, KeepEach, SomeFaultRose, EachMissRose}
 use Rattle.nxf_run.specs.Answer.{Answer, IsAnswer}
 use Rattle.nxf_run.specs.Ending.{AppendsSome, AppendsSomeOf, GivesSome, GivesNothing, NamesFile, Follows, MayEnd, TellsSome, Tells, Reports, NothingFailed, Completes}
 use Rattle.nxf_run.specs.Run.{Run, files_told}
-use Rattle.nxf_run.specs.Steps.{Refuses}
+use Rattle.nxf_run.specs.steps.Preparing.{Refuses}
 use Rattle.nxf_run.proofs.Answering.{IsRefusal, one_answer, some_answer, known_refusal}
 use Rattle.nxf_run.proofs.Appending.{appends_none}
 
@@ -103,7 +103,7 @@ module _ (run : Run) where
   pub refused_ends : (s : Status) → Refuses (files_told run) run.words s
       → ((name : List ℕ) → s ≡ status.NoFile name → NamesFile run.words × EachMissRose run.shelves run.shelves_now)
       → (s ≡ status.ReadFault → NamesFile run.words × SomeFaultRose run.shelves run.shelves_now)
-      → Keeps run.shelves run.shelves_now → run.out_now ≡ run.out → MayEnd run s
+      → KeepEach run.shelves run.shelves_now → run.out_now ≡ run.out → MayEnd run s
   refused_ends s refused no_file read_fault keeps same = record {
     answers = refusal_follows run s refused (ap (λ x. x.held) same);
     causes = record {
@@ -116,7 +116,7 @@ module _ (run : Run) where
   }
 
   -- writing stopped: some of the text was written
-  module _ (text : List ℕ) (answer : IsAnswer (files_told run) run.words (Ok text)) (some : GivesSome run text) (keeps : Keeps run.shelves run.shelves_now) (later : run.out.faults ≤ run.out_now.faults) where
+  module _ (text : List ℕ) (answer : IsAnswer (files_told run) run.words (Ok text)) (some : GivesSome run text) (keeps : KeepEach run.shelves run.shelves_now) (later : run.out.faults ≤ run.out_now.faults) where
     pub write_fault_ends : Rose run.out.faults run.out_now.faults → MayEnd run status.WriteFault
     write_fault_ends rose = record {
       answers = (text, answer, some);

@@ -1,5 +1,5 @@
-pub mod WordLists
+pub mod Answering
 pub mod Appending
 pub mod Ending
-pub mod Answering
 pub mod Reading
+pub mod WordLists

@@ -13,7 +13,7 @@ use Rattle.nxf_tree.specs.declared.tree.Statement.{Statement}
 use Rattle.nxf_tree.specs.declared.tree.Statement.TheVariants.{Annotated, Include}
 use Rattle.nxf_tree.specs.declared.tree.File.{File}
 use Rattle.nxf_tree.specs.Parts.{parts_of}
-use Rattle.nxf_tree.specs.Profile.{problem_in, with_parts, with_spec, with_sorts}
+use Rattle.nxf_tree.specs.Profile.{reading_of, with_parts, with_spec, with_sorts}
 use Rattle.nxf_tree.specs.Problem.{problem_of}
 use Rattle.nxf_tree.specs.SignatureOf.{signature_of}
 use Rattle.nxf_tree.specs.SortFaults.{sort_fault_of}
@@ -21,17 +21,17 @@ use Rattle.nxf_tree.specs.Specification.{Specification, spec_of}
 use Rattle.nxf_tree.specs.Text.{text_of}
 use Rattle.nxf_tree.specs.Weight.{statement_list_weight}
 use Rattle.nxf_tree.specs.WellFormed.{IsWellFormed}
-use Rattle.nxf_signs.specs.declared.sign.Profile.TheVariants.{Classical}
-use Rattle.nxf_grammar.specs.Spells.{Spells}
-use Rattle.printed_problem.proofs.PrintedStatements.{printed_spelled, printed_only}
-use Rattle.nxf_include.specs.Promises.{IsFine}
-use Rattle.nxf_meaning.specs.Laws.{FileTheorem}
-use Rattle.nxf_sorts.specs.Checked.{CheckedFile}
-use Rattle.nxf_sorts.specs.NamedForm.{all_named, formulas_of}
-use Rattle.nxf_embed.specs.Chosen.{IsReadAs}
+use Rattle.nxf_tree.specs.declared.profile.Profile.TheVariants.{Classical}
+use Rattle.syntax_definitions.specs.Spells.{Spells}
+use Rattle.printed_text_laws.proofs.PrintedProblem.{printed_spelled, printed_only}
+use Rattle.syntax_definitions.specs.Promises.{IsFine}
+use Rattle.embedding_laws.specs.Laws.{FileTheorem}
+use Rattle.numbered_definitions.specs.Checked.{CheckedFile}
+use Rattle.numbered_definitions.specs.NamedForm.{all_named, formulas_of}
+use Rattle.numbered_definitions.specs.ReadAs.{IsReadAs}
 use Rattle.nxf_run.specs.Forms.{Form, form_of, file_to_embed, is_later, Embed, Later, NoForm}
 use Rattle.nxf_run.specs.Answer.{IsAnswer, Gathered, IsTranslation, answer_by, embeds}
-use Rattle.nxf_run.specs.Steps.{FileTranslates, Translates, FileRefuses, NameRefuses, Refuses, IsReading}
+use Rattle.nxf_run.specs.steps.Preparing.{FileTranslates, Translates, FileRefuses, NameRefuses, Refuses, IsReading}
 
 -- a file has no more statements than its weight
 pub statements_fit : (ss : List Statement) → length ss ≤ statement_list_weight ss
@@ -48,7 +48,7 @@ module _ (file : File) where
     refused_spec kind h = inl (ap (λ x. answer_by file (with_parts file x)) parted ∙ ap (λ x. answer_by file (with_spec file parts x)) h)
 
     module _ (spec : Specification) (asked : spec_of file ≡ Ok spec) where
-      judged : problem_in file ≡ with_sorts parts spec (signature_of spec file) (sort_fault_of spec file)
+      judged : reading_of file ≡ with_sorts parts spec (signature_of spec file) (sort_fault_of spec file)
       judged = ap (with_parts file) parted ∙ ap (with_spec file parts) asked
 
       pub refused_sort : (kind : SortKind) (place : ℕ) (name : List ℕ) → sort_fault_of spec file ≡ Some (place, (kind, name)) → FileRefuses file (status.Sort kind place name)

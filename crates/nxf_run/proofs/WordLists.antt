@@ -1,9 +1,9 @@
 -- Lists of two and of three words, and numerals.
 use Rattle.std.proofs.Common.{◌≡◌, ◌≢◌, ◌≤◌, ◌<◌, ◌+◌, ◌-◌, ℕ, suc, Bool, true, false, List, [], ◌∷◌, get_or, length, refl, arith, decimal, cond}
-use Rattle.std.specs.Prelude.{◌||◌, ◌&&◌, codes, None}
+use Rattle.std.specs.Prelude.{◌||◌, ◌&&◌, None}
 use Rattle.std.specs.List.{list_any, range_with_len}
 use Rattle.nxf_tree.specs.Names.{same_text}
-use Rattle.nxf_run.specs.Forms.{form_of, with_one_word, file_to_embed, is_file, is_number, takes_two_files, Later, NoForm}
+use Rattle.nxf_run.specs.Forms.{form_of, file_to_embed, is_file, is_number, takes_two_files, Later, NoForm}
 
 pub two : (words : List (List ℕ)) (a b : List ℕ) → length words ≡ 2 → a ≡ get_or words 0 a → b ≡ get_or words 1 b → words ≡ a ∷ b ∷ []
 two [] a b len h k = absurd (omega (arith, len))
@@ -11,27 +11,12 @@ two (x ∷ []) a b len h k = absurd (omega (arith, len))
 two (x ∷ y ∷ []) a b len h k = rw (h, k) refl
 two (x ∷ y ∷ z ∷ rest) a b len h k = absurd (omega (arith, len))
 
-pub three : (words : List (List ℕ)) (a b c : List ℕ) → length words ≡ 3 → a ≡ get_or words 0 a → b ≡ get_or words 1 b → c ≡ get_or words 2 c → words ≡ a ∷ b ∷ c ∷ []
-three [] a b c len h k l = absurd (omega (arith, len))
-three (x ∷ []) a b c len h k l = absurd (omega (arith, len))
-three (x ∷ y ∷ []) a b c len h k l = absurd (omega (arith, len))
-three (x ∷ y ∷ z ∷ []) a b c len h k l = rw (h, k, l) refl
-three (x ∷ y ∷ z ∷ w ∷ rest) a b c len h k l = absurd (omega (arith, len))
-
 pub neither : (words : List (List ℕ)) → length words ≢ 2 → length words ≢ 3 → form_of words ≡ NoForm
 neither [] h k = refl
 neither (x ∷ []) h k = refl
 neither (x ∷ y ∷ []) h k = absurd (h refl)
 neither (x ∷ y ∷ z ∷ []) h k = absurd (k refl)
 neither (x ∷ y ∷ z ∷ w ∷ rest) h k = refl
-
--- words of another command name no file to embed
-pub not_embedded : (command word : List ℕ) → (same_text (codes "embed") command && is_file word) ≡ false → file_to_embed (with_one_word command word) ≡ None
-not_embedded command word h = rw h (by_test (same_text (codes "gen") command && is_number word) refl)
-  where
-    by_test : (t : Bool) → (same_text (codes "gen") command && is_number word) ≡ t → file_to_embed (cond t Later NoForm) ≡ None
-    by_test true e = refl
-    by_test false e = refl
 
 -- ---- numerals
 

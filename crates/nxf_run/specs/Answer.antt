@@ -1,22 +1,21 @@
 -- The answer of the program to its words, by the files of its libraries: a text, or a refusal.
-use Rattle.std.specs.Prelude.{◌≡◌, ◌↔◌, ℕ, List, Option, IfSome, Result, Ok, Err}
+use Rattle.std.specs.Prelude.{◌≡◌, ℕ, List, Option, IfSome, Result, Ok, Err}
 use Rattle.nxf_base.specs.Files.{Files}
 use Rattle.nxf_base.specs.declared.status.Status.{Status}
 use Rattle.nxf_base.specs.declared.status.Status.TheVariants as status
 use Rattle.nxf_tree.specs.declared.tree.File.{File}
-use Rattle.nxf_tree.specs.Structures.{KripkeStructure, ClassicalStructure, IsOver, Corresponds}
-use Rattle.nxf_tree.specs.Countermodels.{IsKripkeCountermodel, IsClassicalCountermodel}
+use Rattle.nxf_tree.specs.Countermodels.{KeepsCountermodels}
 use Rattle.nxf_tree.specs.ClassicalSignature.{classical_signature_of}
 use Rattle.nxf_tree.specs.Problem.{problem_of}
-use Rattle.nxf_tree.specs.Profile.{Problem, Refusal, RefusedRole, RefusedSpec, RefusedSort, problem_in}
+use Rattle.nxf_tree.specs.Profile.{Reading, Refusal, RefusedRole, RefusedSpec, RefusedSort, reading_of}
 use Rattle.nxf_tree.specs.Sorting.{FileIsOver}
 use Rattle.nxf_tree.specs.Text.{text_of}
-use Rattle.nxf_signs.specs.declared.sign.Profile.TheVariants.{Classical}
-use Rattle.nxf_grammar.specs.Spells.{Spells}
-use Rattle.nxf_include.specs.declared.gather_error.GatherError.{GatherError}
-use Rattle.nxf_include.specs.declared.gather_error.GatherError.TheVariants as gather
-use Rattle.nxf_include.specs.Gathered.{Gathers}
-use Rattle.nxf_include.specs.Refusals.{IsOfFiles}
+use Rattle.nxf_tree.specs.declared.profile.Profile.TheVariants.{Classical}
+use Rattle.syntax_definitions.specs.Spells.{Spells}
+use Rattle.syntax_definitions.specs.declared.gather_error.GatherError.{GatherError}
+use Rattle.syntax_definitions.specs.declared.gather_error.GatherError.TheVariants as gather
+use Rattle.syntax_definitions.specs.Gathered.{Gathers}
+use Rattle.syntax_definitions.specs.Refusals.{IsOfFiles}
 use Rattle.nxf_run.specs.Forms.{form_of, Embed, Later, NoForm}
 
 abbrev pub Answer : Type 0
@@ -41,13 +40,13 @@ status_of_refusal (RefusedSpec kind) = status.Spec kind
 status_of_refusal (RefusedSort kind place name) = status.Sort kind place name
 
 -- the classical problem of a file in the profile as text, or the first refusal of its roles, its logic statement and its sorts
-abbrev pub answer_by : File → Result Problem Refusal → Answer
+abbrev pub answer_by : File → Result Reading Refusal → Answer
 answer_by file (Ok problem) = Ok (text_of (problem_of problem.signature file))
 answer_by file (Err refusal) = Err (status_of_refusal refusal)
 
 -- the answer to a gathered file, or to one that is refused before
 abbrev pub answer_to : Result File GatherError → Answer
-answer_to (Ok file) = answer_by file (problem_in file)
+answer_to (Ok file) = answer_by file (reading_of file)
 answer_to (Err error) = Err (status_of_gathering error)
 
 -- Such is the file of this name with all that it includes, where the files are told. Files that aren't told may be any.
@@ -67,11 +66,10 @@ pub data IsAnswer (told : Option Files) (words : List (List ℕ)) : Answer → T
 -- file's signature and the classical structure that corresponds to it, the one is a countermodel of the classical problem exactly
 -- where the other is one of the file.
 pub record IsTranslation (file : File) (text : List ℕ) : Type 0 where
-  pub problem : Problem
-  pub in_profile : problem_in file ≡ Ok problem
+  pub problem : Reading
+  pub in_profile : reading_of file ≡ Ok problem
   pub text_is : text ≡ text_of (problem_of problem.signature file)
   pub spells : Spells Classical text (problem_of problem.signature file)
   pub no_other : (other : File) → Spells Classical text other → other ≡ problem_of problem.signature file
   pub over : FileIsOver (classical_signature_of problem.signature) (problem_of problem.signature file)
-  pub keeps_countermodels : (K : KripkeStructure) (S : ClassicalStructure) → IsOver problem.signature K → Corresponds K S →
-      IsClassicalCountermodel (classical_signature_of problem.signature) (problem_of problem.signature file) S ↔ IsKripkeCountermodel problem.signature file K
+  pub keeps_countermodels : KeepsCountermodels problem.signature file (problem_of problem.signature file)

@@ -7,7 +7,7 @@ use Rattle.nxf_base.specs.Write.{Appends}
 use Rattle.nxf_base.specs.declared.status.Status.{Status}
 use Rattle.nxf_base.specs.declared.status.Status.TheVariants as status
 use Rattle.nxf_tree.specs.declared.tree.File.{File}
-use Rattle.nxf_include.specs.Roots.{Keeps, SomeFaultRose, EachMissRose}
+use Rattle.nxf_include.specs.Roots.{KeepEach, SomeFaultRose, EachMissRose}
 use Rattle.nxf_run.specs.Forms.{form_of, Embed}
 use Rattle.nxf_run.specs.Answer.{Answer, IsAnswer, Gathered, IsTranslation}
 use Rattle.nxf_run.specs.Run.{Run, files_told}
@@ -62,7 +62,7 @@ pub record HasCause (run : Run) (s : Status) : Type 0 where
   pub no_file : (name : List ℕ) → s ≡ status.NoFile name → NamesFile run.words × EachMissRose run.shelves run.shelves_now
   pub read_fault : s ≡ status.ReadFault → NamesFile run.words × SomeFaultRose run.shelves run.shelves_now
   pub write_fault : s ≡ status.WriteFault → Rose run.out.faults run.out_now.faults
-  pub keeps : Keeps run.shelves run.shelves_now
+  pub keeps : KeepEach run.shelves run.shelves_now
   pub later : run.out.faults ≤ run.out_now.faults
 
 -- the status is one in which a run may end that leaves the libraries and `out` so

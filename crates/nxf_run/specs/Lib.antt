@@ -1,5 +1,5 @@
-pub mod Forms
 pub mod Answer
-pub mod Run
 pub mod Ending
-pub mod Steps
+pub mod Forms
+pub mod Run
+pub mod steps

@@ -1,12 +1,12 @@
 //! What is to be written, before a byte of it is.
 ghost use Rattle.std.specs.Prelude.{◌≡◌, ◌⊎◌, IsTrue, IfOk, IfErr, Err, MatchResult, map};
 ghost use Rattle.nxf_tree.specs.Text.{text_of, is_printable};
-ghost use Rattle.nxf_include.specs.Roots.{files_of, Keeps, SomeFaultRose, EachMissRose};
-ghost use Rattle.nxf_include.specs.Promises.{IsFine};
+ghost use Rattle.nxf_include.specs.Roots.{files_of, KeepEach, SomeFaultRose, EachMissRose};
+ghost use Rattle.syntax_definitions.specs.Promises.{IsFine};
 ghost use Rattle.nxf_run.specs.Answer as answer;
 ghost use Rattle.nxf_run.specs.Answer.{IsTranslation};
 ghost use Rattle.nxf_run.specs.Ending.{NamesFile};
-ghost use Rattle.nxf_run.specs.Steps.{Translates, FileTranslates, NameRefuses, FileRefuses, Refuses, IsReading};
+ghost use Rattle.nxf_run.specs.steps.Preparing.{Translates, FileTranslates, NameRefuses, FileRefuses, Refuses, IsReading};
 
 use crate::words::{file_to_embed, is_later};
 use logic_spec::{SpecError, read_spec};
@@ -29,7 +29,7 @@ pub fn prepare<L: Library>(
     ensures refused { IfErr result (λ s. Refuses (files_of (map L.shelf libraries.old)) words.now s) }
     ensures no_file { (name : _) → result ≡ Err (Status.NoFile name) → NamesFile words.now × EachMissRose (map L.shelf libraries.old) (map L.shelf libraries.new) }
     ensures read_fault { result ≡ Err Status.ReadFault → NamesFile words.now × SomeFaultRose (map L.shelf libraries.old) (map L.shelf libraries.new) }
-    ensures keeps { Keeps (map L.shelf libraries.old) (map L.shelf libraries.new) }
+    ensures keeps { KeepEach (map L.shelf libraries.old) (map L.shelf libraries.new) }
 {
     match file_to_embed(words) {
         Some(name) => embed_file(alloc, libraries, name),
@@ -47,7 +47,7 @@ fn embed_file<L: Library>(
     ensures answers { MatchResult result (λ text. FileTranslates (files_of (map L.shelf libraries.old)) name.now text.items) (NameRefuses (files_of (map L.shelf libraries.old)) name.now) }
     ensures no_file { (missing : _) → result ≡ Err (Status.NoFile missing) → EachMissRose (map L.shelf libraries.old) (map L.shelf libraries.new) }
     ensures read_fault { result ≡ Err Status.ReadFault → SomeFaultRose (map L.shelf libraries.old) (map L.shelf libraries.new) }
-    ensures keeps { Keeps (map L.shelf libraries.old) (map L.shelf libraries.new) }
+    ensures keeps { KeepEach (map L.shelf libraries.old) (map L.shelf libraries.new) }
 {
     match gather_from(alloc, libraries, name) {
         Ok(file) => translate(alloc, file),

@@ -1,7 +1,7 @@
 //! The top call.
 ghost use Rattle.std.specs.Prelude.{ℕ, List, Some};
 ghost use Rattle.nxf_base.specs.Files.{Files};
-ghost use Rattle.nxf_include.specs.Steps.{ExactlyOne};
+ghost use Rattle.nxf_base.specs.Exactly.{ExactlyOne};
 ghost use Rattle.nxf_run.specs.Answer.{IsAnswer};
 ghost use Rattle.nxf_run.specs.Ending.{Follows, HasCause, Reports, Completes, Means};
 ghost use Rattle.nxf_run.specs.Run.{ran, ran_on};

@@ -24,19 +24,19 @@ use Rattle.nxf_tree.specs.Signature.{same_sort, same_index, sort_at, sort_names,
 use Rattle.nxf_tree.specs.Sorting.{Language, Bound, modal_language, in_range}
 use Rattle.nxf_tree.specs.Occurrences.{Use, indexes, occurrences}
 use Rattle.nxf_tree.specs.SortFaults.{sort_text, unknown_sort, symbol_fault, argument_types, arguments_fault, formula_fault, formulas_fault}
-use Rattle.nxf_meaning.proofs.Apart.{sort-true, index-true}
-use Rattle.nxf_meaning.proofs.NoFault.{index-append}
-use Rattle.nxf_meaning.proofs.ProfileLaw.{same_sort-sym}
-use Rattle.nxf_names.specs.Places.{place}
-use Rattle.nxf_names.proofs.Walks.{of_And, of_Or}
+use Rattle.name_laws.proofs.Apart.{sort-true, index-true}
+use Rattle.signature_laws.proofs.NoFault.{index-append}
+use Rattle.name_laws.proofs.SameNames.{same_sort-sym}
+use Rattle.nxf_signatures.specs.Places.{place}
+use Rattle.nxf_signatures.proofs.Walks.{of_And, of_Or}
 use Rattle.nxf_sorts.specs.declared.fault.Fault.{Fault}
-use Rattle.nxf_sorts.specs.declared.node.NTerm.{NTerm}
-use Rattle.nxf_sorts.specs.declared.node.Node.{Node, Row_of-Node, end_of-Node, more_of-Node}
-use Rattle.nxf_sorts.specs.declared.node.Node as node
-use Rattle.nxf_sorts.specs.declared.node.Node.TheBlock.{hidden-the_row-Node-0, hidden-the_row-Node-1, items-the_row-Node, items_hidden-the_row-Node-1}
-use Rattle.nxf_sorts.specs.NamedForm.{both, sort_name, index_name, named_form, named_nodes, named_forms}
-use Rattle.nxf_sorts.specs.Scope.{Scope, variables, bound_in}
-use Rattle.nxf_sorts.specs.Numbering.{IsFault, Uses, NumbersTerms, NumbersSides, NumbersFormula, NumbersFormulas, formulas_faults, KnowsIndexes, KnowsAllIndexes, Finds}
+use Rattle.numbered_definitions.specs.declared.node.NTerm.{NTerm}
+use Rattle.numbered_definitions.specs.declared.node.Node.{Node, Row_of-Node, end_of-Node, more_of-Node}
+use Rattle.numbered_definitions.specs.declared.node.Node as node
+use Rattle.numbered_definitions.specs.declared.node.Node.TheBlock.{hidden-the_row-Node-0, hidden-the_row-Node-1, items-the_row-Node, items_hidden-the_row-Node-1}
+use Rattle.numbered_definitions.specs.NamedForm.{both, sort_name, index_name, named_form, named_nodes, named_forms}
+use Rattle.nxf_sorts.specs.steps.Scope.{Scope, variables, bound_in}
+use Rattle.nxf_sorts.specs.steps.Numbering.{IsFault, Uses, NumbersTerms, NumbersSides, NumbersFormula, NumbersFormulas, formulas_faults, KnowsIndexes, KnowsAllIndexes, FindsNumber}
 use Rattle.nxf_sorts.proofs.UseLemmas.{fault_first, fault_then, fault_is}
 
 -- the numbers of sorts and indexes
@@ -75,7 +75,7 @@ sort_found (e ∷ entries) s k h = by (same_sort s e.name) refl (place (same_sor
         let rest : (has same_sort s (sort_names entries) ≡ true) × (option_map (λ (x : SortEntry). x.name) (slice_get entries k) ≡ Some s) × (sort_at entries k ≡ s) × (in_range entries k ≡ true) = next k (ap Some same) in
         (ap (λ b. b || has same_sort s (sort_names entries)) (same_sort-sym e.name s ∙ is) ∙ rest.0, rest.1, rest.2, rest.3)
 
-pub finds : (sig : Signature) (s : SortName) (k : ℕ) → place (same_sort s) (sort_names sig.sorts) ≡ Some k → Finds sig s k
+pub finds : (sig : Signature) (s : SortName) (k : ℕ) → place (same_sort s) (sort_names sig.sorts) ≡ Some k → FindsNumber sig s k
 finds sig s k h = let all = sort_found sig.sorts s k h in record { known = all.0; name = all.1; at = all.2; range = all.3 }
 
 pub index_found : (entries : List IndexEntry) (i : IndexName) (k : ℕ) → place (same_index i) (index_names entries) ≡ Some k → option_map (λ (e : IndexEntry). e.name) (slice_get entries k) ≡ Some i
@@ -189,10 +189,7 @@ module _ (sig : Signature) (us : List Use) (bs : Scope) where
   pub pair_second : (op : Op) (f g : Formula) (a : Node) (e : Fault) → NumbersFormula sig us bs f a → IsFault (formula_fault L us B g) e → IsFault (formula_fault L us B (Pair2 op f g)) e
   pair_second op f g a e h k = fault_then _ _ e h.no_fault k
 
-  pub sort_unknown : (q : Quantifier) (x : List ℕ) (s : SortName) (f : Formula) (e : Fault) → L.knows_sort s ≡ false → IsFault (Some (UnknownSort, sort_text s)) e → IsFault (formula_fault L us B (Quant1 q x s f)) e
-  sort_unknown q x s f e absent h = fault_first _ _ e (fault_is _ _ e (ap (λ b. if b then None else Some (UnknownSort, sort_text s)) absent) h)
-
-  module _ (q : Quantifier) (x : List ℕ) (s : SortName) (f : Formula) (k : ℕ) (found : Finds sig s k) where
+  module _ (q : Quantifier) (x : List ℕ) (s : SortName) (f : Formula) (k : ℕ) (found : FindsNumber sig s k) where
     under : formula_fault L us (bound_in sig ((x, k) ∷ bs)) f ≡ formula_fault L us ((x, s) ∷ B) f
     under = ap (λ r. formula_fault L us ((x, r) ∷ B) f) found.at
 

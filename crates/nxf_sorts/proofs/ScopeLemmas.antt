@@ -4,12 +4,12 @@ use Rattle.std.specs.Prelude.{if◌then◌else◌, Result, Ok, Err, OnOk, OnErr}
 use Rattle.std.specs.Map.{lookup}
 use Rattle.std.proofs.lemmas.List.Sums.{fold-append}
 use Rattle.nxf_tree.specs.Names.{same_text}
-use Rattle.nxf_meaning.proofs.Spelling.{same_text-refl, same_text-true}
-use Rattle.nxf_meaning.proofs.NoFault.{some-none}
-use Rattle.nxf_meaning.proofs.Firsts.{split_bool}
+use Rattle.name_laws.proofs.Spelling.{same_text-refl, same_text-true}
+use Rattle.signature_laws.proofs.NoFault.{some-none}
+use Rattle.name_laws.proofs.Firsts.{split_bool}
 use Rattle.nxf_sorts.specs.declared.binders.Binder.{Binder}
-use Rattle.nxf_sorts.specs.Scope.{Scope, found}
-use Rattle.nxf_sorts.specs.InStep.{and_binder, scope_of, KnowHidden, IsInStep}
+use Rattle.nxf_sorts.specs.steps.Scope.{Scope, found}
+use Rattle.nxf_sorts.specs.steps.InStep.{and_binder, scope_of, KnowHidden, IsInStep}
 
 pub scope_push : (stack : List Binder) (b : Binder) → scope_of (stack ++ b ∷ []) ≡ and_binder (scope_of stack) b
 scope_push stack b = fold-append and_binder [] stack (b ∷ [])

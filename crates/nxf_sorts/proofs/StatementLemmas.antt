@@ -8,19 +8,17 @@ use Rattle.std.proofs.lemmas.List.Folds.{list_all-append}
 use Rattle.nxf_tree.specs.declared.tree.Body.TheVariants.{Formula as IsFormula, Typing as IsTyping, Logic as IsLogic}
 use Rattle.nxf_tree.specs.declared.tree.Statement.{Statement}
 use Rattle.nxf_tree.specs.declared.tree.Statement.TheVariants.{Annotated, Include}
-use Rattle.nxf_tree.specs.declared.tree.Role.{Role}
 use Rattle.nxf_tree.specs.declared.tree.Formula.{Formula}
 use Rattle.nxf_tree.specs.declared.tree.IndexName.{IndexName}
 use Rattle.nxf_tree.specs.declared.tree.Signature.{Signature}
 use Rattle.nxf_tree.specs.Sorting.{modal_language}
-use Rattle.nxf_tree.specs.Occurrences.{Use, indexes, occurrences, statement_occurrences, occurrences_in}
-use Rattle.nxf_tree.specs.SortFaults.{formula_statement_fault}
-use Rattle.nxf_meaning.proofs.NoFault.{index-append}
-use Rattle.nxf_sorts.specs.declared.node.Node.{Node}
-use Rattle.nxf_sorts.specs.declared.node.Numbered.{Numbered}
-use Rattle.nxf_sorts.specs.NamedForm.{both, FormulaStatement, named, all_named, formulas_from}
-use Rattle.nxf_sorts.specs.Numbering.{NumbersFormula}
-use Rattle.nxf_sorts.specs.Statements.{KnowsFile, Adds, NumbersStatement}
+use Rattle.nxf_tree.specs.Occurrences.{Use, indexes, statement_occurrences, occurrences_in}
+use Rattle.signature_laws.proofs.NoFault.{index-append}
+use Rattle.numbered_definitions.specs.declared.node.Node.{Node}
+use Rattle.numbered_definitions.specs.declared.node.Numbered.{Numbered}
+use Rattle.numbered_definitions.specs.NamedForm.{both, FormulaStatement, named, all_named, formulas_from}
+use Rattle.nxf_sorts.specs.steps.Numbering.{NumbersFormula}
+use Rattle.nxf_sorts.specs.steps.Statements.{KnowsFile, Adds}
 
 -- one more numbered formula
 all_push : (sig : Signature) (old : List Numbered) (fs : List FormulaStatement) (n : Numbered) (f : FormulaStatement) → all_named sig old ≡ Some fs → named sig n ≡ Some f → all_named sig (old ++ n ∷ []) ≡ Some (fs ++ f ∷ [])
@@ -40,19 +38,6 @@ pub adds : (sig : Signature) (us : List Use) (k : ℕ) (name : List ℕ) (f : Fo
 adds sig us k name f old n h = record {
   no_fault = h.no_fault;
   named = λ known fs e. all_push sig old fs _ _ e (ap (option_map (λ (g : Formula). record { place = k; name = name; formula = g })) (h.named known));
-}
-
--- a statement with its formula, and one without
-pub formula_added : (sig : Signature) (us : List Use) (k : ℕ) (name : List ℕ) (role : Role) (f : Formula) (old new : List Numbered) → Adds sig us k name f old new → NumbersStatement sig us k (Annotated name role (IsFormula f)) old new
-formula_added sig us k name role f old new h = record {
-  no_fault = h.no_fault;
-  named = λ known. h.named (sym (ap (λ os. list_all (modal_language sig).knows_index (indexes os)) (append-nil (occurrences f))) ∙ known);
-}
-
-pub nothing_added : (sig : Signature) (us : List Use) (k : ℕ) (s : Statement) (old : List Numbered) → formula_statement_fault (modal_language sig) us s ≡ None → formulas_from k (s ∷ []) ≡ [] → NumbersStatement sig us k s old old
-nothing_added sig us k s old fine none = record {
-  no_fault = fine;
-  named = λ known fs e. e ∙ ap Some (sym (append-nil fs) ∙ ap (λ more. fs ++ more) (sym none));
 }
 
 pub from_append : (k : ℕ) (xs ys : List Statement) → formulas_from k (xs ++ ys) ≡ formulas_from k xs ++ formulas_from (k + length xs) ys

@@ -16,19 +16,19 @@ use Rattle.nxf_tree.specs.Signature.{same_sort, sort_at, sort_names}
 use Rattle.nxf_tree.specs.Sorting.{Language, Bound, bound_sort, is_sort, fit, applied_sort, have_one_sort, sort_of, modal_language, in_range}
 use Rattle.nxf_tree.specs.Occurrences.{Use}
 use Rattle.nxf_tree.specs.SortFaults.{SortFault, symbol_fault, argument_types, wrong_sort, free_variable, term_fault, row_fault, arguments_fault, equation_fault}
-use Rattle.nxf_meaning.proofs.Spelling.{same_text-refl, same_text-true, true-false}
-use Rattle.nxf_meaning.proofs.Firsts.{split_bool}
-use Rattle.nxf_meaning.proofs.NoFault.{some-none, or-none, test-passes}
-use Rattle.nxf_meaning.proofs.ProfileLaw.{same_sort-sym}
-use Rattle.nxf_meaning.proofs.SortedFormulas.{sort_of-App}
-use Rattle.nxf_names.proofs.Walks.{row_length_is}
-use Rattle.nxf_sorts.specs.declared.node.NTerm.{NTerm, Bound as Level, Row_of-NTerm, end_of-NTerm, more_of-NTerm}
-use Rattle.nxf_sorts.specs.declared.node.NTerm as numbered
-use Rattle.nxf_sorts.specs.declared.node.NTerm.TheBlock.{hidden-the_row-NTerm-0, items-the_row-NTerm, items_hidden-the_row-NTerm-0}
+use Rattle.name_laws.proofs.Spelling.{same_text-refl, same_text-true, true-false}
+use Rattle.name_laws.proofs.Firsts.{split_bool}
+use Rattle.signature_laws.proofs.NoFault.{some-none, or-none, test-passes}
+use Rattle.name_laws.proofs.SameNames.{same_sort-sym}
+use Rattle.name_laws.proofs.SortedFormulas.{sort_of-App}
+use Rattle.nxf_signatures.proofs.Walks.{row_length_is}
+use Rattle.numbered_definitions.specs.declared.node.NTerm.{NTerm, Bound as Level, Row_of-NTerm, end_of-NTerm, more_of-NTerm}
+use Rattle.numbered_definitions.specs.declared.node.NTerm as numbered
+use Rattle.numbered_definitions.specs.declared.node.NTerm.TheBlock.{hidden-the_row-NTerm-0, items-the_row-NTerm, items_hidden-the_row-NTerm-0}
 use Rattle.nxf_sorts.specs.declared.fault.Fault.{Fault}
-use Rattle.nxf_sorts.specs.NamedForm.{both, variable, symbol_name, named_term, named_row, named_terms}
-use Rattle.nxf_sorts.specs.Scope.{Scope, found, variables, bound_in}
-use Rattle.nxf_sorts.specs.Numbering.{IsFault, IsGoodSignature, IsScope, Uses, argument_fault, NumbersTerm, NumbersArgument, NumbersTerms}
+use Rattle.numbered_definitions.specs.NamedForm.{both, variable, symbol_name, named_term, named_row, named_terms}
+use Rattle.nxf_sorts.specs.steps.Scope.{Scope, found, variables, bound_in}
+use Rattle.nxf_sorts.specs.steps.Numbering.{IsFault, IsGoodSignature, IsScope, Uses, argument_fault, NumbersTerm, NumbersTerms}
 use Rattle.nxf_sorts.proofs.UseLemmas.{fault_first, fault_is}
 
 -- sorts with different numbers have different names
@@ -233,21 +233,10 @@ module _ (sig : Signature) (us : List Use) (bs : Scope) (f : List ℕ) (wanted :
   abbrev A : Language
   A = modal_language sig
 
-  pub argument_refused : (e : Fault) → IsFault (term_fault A us (bound_in sig bs) t) e → IsFault (argument_fault sig us bs f wanted t) e
-  argument_refused e h = fault_first _ _ e h
-
   pub argument_apart : (n : NTerm) (s : ℕ) → IsGoodSignature sig → in_range sig.sorts wanted ≡ true → NumbersTerm sig us bs t n s → (s ≡ wanted → ⊥) → argument_fault sig us bs f wanted t ≡ Some (Mismatch, f)
   argument_apart n s good r h k =
       (λ i. option_or (h.no_fault i) (wrong_sort f (sort_at sig.sorts wanted) (h.sort i)))
       ∙ ap (λ b. if b then None else Some (Mismatch, f)) (sorts_apart sig.sorts wanted s good.different r h.range (λ e. k (sym e)))
-
-  pub argument_numbered : (n : NTerm) (s : ℕ) → NumbersTerm sig us bs t n s → s ≡ wanted → NumbersArgument sig us bs f wanted t n
-  argument_numbered n s h e = record {
-    no_fault =
-        (λ i. option_or (h.no_fault i) (wrong_sort f (sort_at sig.sorts wanted) (h.sort i)))
-        ∙ ap (λ b. if b then None else Some (Mismatch, f)) (ap (λ k. same_sort (sort_at sig.sorts wanted) (sort_at sig.sorts k)) e ∙ same_sort-refl (sort_at sig.sorts wanted));
-    named = h.named;
-  }
 
   module _ (rest : List ℕ) (ts : List Term) where
     abbrev remaining : Option SortFault

@@ -20,13 +20,13 @@ use Rattle.nxf_tree.specs.Sorting.{Language}
 use Rattle.nxf_tree.specs.Occurrences.{declared, declared_sorts}
 use Rattle.nxf_tree.specs.SignatureOf.{firsts, same_symbol, type_in}
 use Rattle.nxf_tree.specs.SortFaults.{SortFault, unknown_sort, unknown_sorts, declared_again, typing_fault, type_statement_fault}
-use Rattle.nxf_meaning.proofs.Spelling.{same_text-true, both_ways, true-false}
-use Rattle.nxf_meaning.proofs.Firsts.{split_bool, firsts-none, has-firsts}
-use Rattle.nxf_meaning.proofs.ProfileLaw.{same_text-sym}
-use Rattle.nxf_names.specs.declared.declarations.Declarations.{Declarations}
-use Rattle.nxf_names.specs.Tables.{uses_in, sort_texts}
-use Rattle.nxf_names.proofs.Noted.{texts_noted, symbols_noted, type_first}
-use Rattle.nxf_names.proofs.TablesLaw.{sorts_are}
+use Rattle.name_laws.proofs.Spelling.{same_text-true, both_ways, true-false}
+use Rattle.name_laws.proofs.Firsts.{split_bool, firsts-none, has-firsts}
+use Rattle.name_laws.proofs.SameNames.{same_text-sym}
+use Rattle.nxf_signatures.specs.declared.declarations.Declarations.{Declarations}
+use Rattle.nxf_signatures.specs.steps.Tables.{uses_in, sort_texts}
+use Rattle.nxf_signatures.proofs.Noted.{texts_noted, symbols_noted, type_first}
+use Rattle.nxf_signatures.proofs.TablesLaw.{sorts_are}
 use Rattle.nxf_sorts.specs.declared.error.SortError.{SortError}
 use Rattle.nxf_sorts.specs.declared.fault.Fault.{Fault}
 use Rattle.nxf_sorts.specs.Judging.{Judges, IsFileFault, typing_after, statement_after}

@@ -4,7 +4,6 @@ use Rattle.std.specs.Prelude.{suc, ◌&&◌, nat_eq, map, slice_get, if◌then�
 use Rattle.std.specs.Option.{option_map, option_or}
 use Rattle.std.specs.List.{list_all}
 use Rattle.std.proofs.lemmas.Bool.{and_parts, eq-eqb}
-use Rattle.nxf_base.specs.declared.status.SortKind.TheVariants.{DoubleName}
 use Rattle.nxf_tree.specs.declared.tree.Signature.{Signature}
 use Rattle.nxf_tree.specs.declared.tree.SortEntry.{SortEntry}
 use Rattle.nxf_tree.specs.declared.tree.SymbolEntry.{SymbolEntry}
@@ -15,11 +14,11 @@ use Rattle.nxf_tree.specs.Signature.{sort_at}
 use Rattle.nxf_tree.specs.Sorting.{SymbolType, modal_language, type_among, in_range, gives_in_range}
 use Rattle.nxf_tree.specs.Occurrences.{Use}
 use Rattle.nxf_tree.specs.SortFaults.{SortFault, is_right_use, symbol_fault}
-use Rattle.nxf_meaning.proofs.Spelling.{same_text-true}
-use Rattle.nxf_names.specs.Places.{numbered_entry}
+use Rattle.name_laws.proofs.Spelling.{same_text-true}
+use Rattle.nxf_signatures.specs.Places.{numbered_entry}
 use Rattle.nxf_sorts.specs.declared.fault.Fault.{Fault}
 use Rattle.nxf_sorts.specs.declared.fault.Fault.TheVariants.{Kind, Memory}
-use Rattle.nxf_sorts.specs.Numbering.{IsFault, IsGoodSignature, wrong_symbol, Uses}
+use Rattle.nxf_sorts.specs.steps.Numbering.{IsFault, IsGoodSignature, wrong_symbol, Uses}
 
 -- the first of two faults
 pub fault_first : (o p : Option SortFault) (e : Fault) → IsFault o e → IsFault (option_or o p) e
@@ -100,9 +99,6 @@ module _ (sig : Signature) (us : List Use) (f : List ℕ) (count : ℕ) (functio
 
   pub wrong_count : (q : ℕ × SymbolEntry) → (modal_language sig).knows_sort (User f) ≡ false → numbered_entry sig.symbols f ≡ Some q → nat_eq (length q.1.args) count ≡ false → symbol_fault (modal_language sig) us f count function ≡ wrong_symbol us f
   wrong_count q apart h k = wrong_is apart (right_entry q h ∙ ap (λ b. b && same_truth (is_some q.1.gives) function) k)
-
-  pub double_is : (modal_language sig).knows_sort (User f) ≡ true → symbol_fault (modal_language sig) us f count function ≡ Some (DoubleName, f)
-  double_is known = rw known refl
 
 -- a symbol that is used rightly
 pub used : (sig : Signature) (us : List Use) (f : List ℕ) (count : ℕ) (gives : Option ℕ) (q : ℕ × SymbolEntry) → IsGoodSignature sig → (modal_language sig).knows_sort (User f) ≡ false

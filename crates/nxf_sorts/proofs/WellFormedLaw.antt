@@ -6,7 +6,7 @@ use Rattle.std.specs.List.{list_all, All}
 use Rattle.std.proofs.lemmas.Bool.{and_parts, and_from, leb-true}
 use Rattle.std.proofs.lemmas.List.Elements.{All-nil, All-cons}
 use Rattle.nxf_base.specs.declared.status.SpecKind.{SpecKind}
-use Rattle.nxf_signs.specs.Spelled.{Allowed}
+use Rattle.nxf_tree.specs.Profiles.{Allowed}
 use Rattle.nxf_tree.specs.declared.tree.SortName.{SortName}
 use Rattle.nxf_tree.specs.declared.tree.SortName.TheVariants.{Individual}
 use Rattle.nxf_tree.specs.declared.tree.IndexName.{IndexName}
@@ -27,12 +27,12 @@ use Rattle.nxf_tree.specs.WellFormed.{is_name, is_sort_name, is_index_name, AreO
 use Rattle.nxf_tree.specs.Occurrences.{Use, uses, indexes, declared, declared_sorts, occurrences_in}
 use Rattle.nxf_tree.specs.SignatureOf.{firsts, same_symbol, type_in, typed, symbols_of, has_individual, sorts_of_file, is_named, indexes_of_file, sort_number, symbol_entry, signature_of}
 use Rattle.nxf_tree.specs.SortFaults.{sort_fault_of}
-use Rattle.nxf_meaning.proofs.Firsts.{firsts-all, filter-all}
-use Rattle.nxf_meaning.proofs.ProfileLaw.{different, in-range}
-use Rattle.nxf_meaning.proofs.Schemes.{schemes-ordered}
-use Rattle.nxf_names.proofs.TablesLaw.{sorts_named, indexes_named}
-use Rattle.nxf_statements.specs.Regular.{is_regular_statement}
-use Rattle.nxf_sorts.proofs.RegularNames.{is_fine, file_fine, IsFineFile}
+use Rattle.name_laws.proofs.Firsts.{firsts-all, filter-all}
+use Rattle.signature_laws.proofs.ProfileLaw.{different, in-range}
+use Rattle.signature_laws.proofs.Schemes.{schemes-ordered}
+use Rattle.name_laws.proofs.Entries.{sorts_named, indexes_named}
+use Rattle.nxf_tree.specs.Regular.{is_regular_statement}
+use Rattle.signature_laws.proofs.RegularNames.{is_fine, file_fine, IsFineFile}
 
 -- the types of declared symbols are short
 type_short : (us : List Use) (f : List ℕ) (t : SymbolType) → list_all is_fine us ≡ true → type_in us f ≡ Some t → nat_le (length t.args) 1000 ≡ true

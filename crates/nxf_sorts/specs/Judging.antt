@@ -11,12 +11,12 @@ use Rattle.nxf_tree.specs.Names.{same_text}
 use Rattle.nxf_tree.specs.Sorting.{Language}
 use Rattle.nxf_tree.specs.SignatureOf.{type_in}
 use Rattle.nxf_tree.specs.SortFaults.{SortFault, declared_again}
-use Rattle.nxf_names.specs.declared.declarations.Declarations.{Declarations}
-use Rattle.nxf_names.specs.Tables.{uses_in}
+use Rattle.nxf_signatures.specs.declared.declarations.Declarations.{Declarations}
+use Rattle.nxf_signatures.specs.steps.Tables.{uses_in}
 use Rattle.nxf_sorts.specs.declared.error.SortError.{SortError}
 use Rattle.nxf_sorts.specs.declared.error.SortError.TheVariants.{Kind, Memory}
 use Rattle.nxf_sorts.specs.declared.fault.Fault.{Fault}
-use Rattle.nxf_sorts.specs.Numbering.{IsFault}
+use Rattle.nxf_sorts.specs.steps.Numbering.{IsFault}
 
 -- there is no fault where the call succeeds, and the fault is the one that it names
 abbrev pub Judges : Option SortFault → Result (Unit {0}) Fault → Type 0

@@ -1,7 +1,2 @@
-pub mod NamedForm
-pub mod Checked
-pub mod Scope
-pub mod InStep
-pub mod Numbering
 pub mod Judging
-pub mod Statements
+pub mod steps

@@ -1,7 +1,7 @@
 //! The variables that the enclosing quantifiers bind.
 
 ghost use Rattle.std.specs.Prelude.{◌≡◌, ◌∷◌, [], OnOk};
-ghost use Rattle.nxf_sorts.specs.Scope.{found, tail};
+ghost use Rattle.nxf_sorts.specs.steps.Scope.{found, tail};
 
 use indexmap::IndexMap;
 use nxf_base::{Memory, Text};
@@ -25,7 +25,7 @@ pub struct Binders {
 
 impl Model for Binders {
     ghost use Rattle.std.specs.Prelude.{List, ℕ};
-    ghost use Rattle.nxf_sorts.specs.InStep.{scope_of, IsInStep};
+    ghost use Rattle.nxf_sorts.specs.steps.InStep.{scope_of, IsInStep};
 
     ghost Value = { List (List ℕ × ℕ) };
 

@@ -1,7 +1,7 @@
 //! Why a file's sorts are refused.
 
 ghost use Rattle.nxf_tree.specs.SortFaults.{SortFault};
-ghost use Rattle.nxf_sorts.specs.Numbering.{IsFault};
+ghost use Rattle.nxf_sorts.specs.steps.Numbering.{IsFault};
 ghost use Rattle.nxf_sorts.specs.Judging.{IsFileFault};
 ghost use Rattle.std.specs.Prelude.{Option};
 ghost use Rattle.std.specs.Option.{option_map};

@@ -1,6 +1,6 @@
 //! Faults of sorts.
 
-ghost use Rattle.nxf_sorts.specs.Numbering.{IsFault};
+ghost use Rattle.nxf_sorts.specs.steps.Numbering.{IsFault};
 ghost use Rattle.std.specs.Prelude.{Some};
 
 use nxf_base::{Memory, SortKind, Text};

@@ -5,16 +5,16 @@ ghost use Rattle.nxf_base.specs.declared.status.SortKind.TheVariants.{UnknownSor
 ghost use Rattle.nxf_tree.specs.Sorting.{modal_language};
 ghost use Rattle.nxf_tree.specs.Shapes.{Quant1, Modal1};
 ghost use Rattle.nxf_tree.specs.SortFaults.{formula_fault, sort_text};
-ghost use Rattle.nxf_sorts.specs.NamedForm.{index_name};
-ghost use Rattle.nxf_sorts.specs.Scope.{bound_in};
-ghost use Rattle.nxf_sorts.specs.Numbering.{IsFault, IsGoodSignature, IsScope, Finds, NumbersFormula, NumbersFormulas, formulas_faults};
+ghost use Rattle.numbered_definitions.specs.NamedForm.{index_name};
+ghost use Rattle.nxf_sorts.specs.steps.Scope.{bound_in};
+ghost use Rattle.nxf_sorts.specs.steps.Numbering.{IsFault, IsGoodSignature, IsScope, FindsNumber, NumbersFormula, NumbersFormulas, formulas_faults};
 
 use crate::binders::Binders;
 use crate::fault::{Fault, fault_of};
-use crate::node::Node;
 use crate::number::{boxed, number_sides, number_terms, put, room, used_predicate};
+use numbered_definitions::Node;
 use nxf_base::{List, Memory, SortKind, Text};
-use nxf_names::Names;
+use nxf_signatures::Names;
 use nxf_tree::{Formula, IndexName, Mode, Quantifier, SortName, Term};
 use sqlite_items::Boxed;
 use std::alloc::Global;
@@ -31,7 +31,7 @@ pub fn unknown_sort(alloc: Global, sort: &SortName) -> Fault
 
 /// The number of a sort, or None where the file has not got it.
 pub fn found_sort(names: &Names, sort: &SortName) -> Option<u32>
-    ensures { MatchOption result ((modal_language names.now.signature).knows_sort sort.now ≡ false) (λ k. Finds names.now.signature sort.now k) }
+    ensures { MatchOption result ((modal_language names.now.signature).knows_sort sort.now ≡ false) (λ k. FindsNumber names.now.signature sort.now k) }
 {
     names.sort(sort)
 }

@@ -2,18 +2,15 @@
 #![tactic(auto)]
 
 mod binders;
-mod checked;
 mod error;
 mod fault;
 mod formula;
-mod node;
 mod number;
 mod overrides;
 mod sort_check;
 mod statements;
 mod typing;
 
-pub use checked::Checked;
 pub use error::SortError;
-pub use node::{NTerm, Node, Numbered};
+pub use numbered_definitions::{Checked, NTerm, Node, Numbered};
 pub use sort_check::check;

@@ -4,16 +4,16 @@ ghost use Rattle.std.specs.Prelude.{◌≡◌, ◌++◌, ◌∷◌, [], OnOk, If
 ghost use Rattle.nxf_tree.specs.Sorting.{modal_language};
 ghost use Rattle.nxf_tree.specs.SortFaults.{symbol_fault, term_fault, arguments_fault, equation_fault};
 ghost use Rattle.nxf_tree.specs.Signature.{sort_at};
-ghost use Rattle.nxf_sorts.specs.Scope.{bound_in};
-ghost use Rattle.nxf_sorts.specs.Numbering.{IsFault, IsGoodSignature, IsScope, wrong_symbol, Uses, argument_fault, NumbersTerm, NumbersArgument, NumbersTerms, NumbersSides};
+ghost use Rattle.nxf_sorts.specs.steps.Scope.{bound_in};
+ghost use Rattle.nxf_sorts.specs.steps.Numbering.{IsFault, IsGoodSignature, IsScope, wrong_symbol, Uses, argument_fault, NumbersTerm, NumbersArgument, NumbersTerms, NumbersSides};
 ghost use Rattle.nxf_tree.specs.Sorting as sorting;
 ghost use Rattle.std.specs.List.{list_all};
 
 use crate::binders::Binders;
 use crate::fault::{Fault, fault_of};
-use crate::node::NTerm;
+use numbered_definitions::NTerm;
 use nxf_base::{List, Memory, SortKind, Text};
-use nxf_names::Names;
+use nxf_signatures::Names;
 use nxf_tree::Term;
 use sqlite_items::Boxed;
 use std::alloc::Global;

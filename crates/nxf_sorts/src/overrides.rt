@@ -10,7 +10,7 @@ ghost use Rattle.nxf_sorts.specs.Judging.{Judges, JudgesFile};
 use crate::error::{SortError, at_statement};
 use crate::fault::{Fault, fault_of};
 use nxf_base::{List, SortKind, Text};
-use nxf_names::Names;
+use nxf_signatures::Names;
 use nxf_tree::{Override, SpecKey};
 use std::alloc::Global;
 

@@ -9,21 +9,20 @@ ghost use Rattle.nxf_tree.specs.Specification.{spec_of};
 ghost use Rattle.logic_spec.specs.Asked.{asked_by};
 ghost use Rattle.nxf_tree.specs.Weight.{file_weight};
 ghost use Rattle.nxf_tree.specs.WellFormed.{IsWellFormed};
-ghost use Rattle.nxf_signs.specs.declared.sign.Profile.TheVariants as profiles;
-ghost use Rattle.nxf_statements.specs.Regular.{IsRegular};
-ghost use Rattle.nxf_grammar.specs.Profiles.{allowed_in};
-ghost use Rattle.nxf_sorts.specs.NamedForm.{all_named, formulas_of};
+ghost use Rattle.nxf_tree.specs.declared.profile.Profile.TheVariants as profiles;
+ghost use Rattle.nxf_tree.specs.Regular.{IsRegular};
+ghost use Rattle.nxf_tree.specs.Profiles.{allowed_in};
+ghost use Rattle.numbered_definitions.specs.NamedForm.{all_named, formulas_of};
 ghost use Rattle.nxf_sorts.specs.Judging.{IsFileFault};
 
-use crate::checked::Checked;
 use crate::error::SortError;
-use crate::node::Numbered;
 use crate::overrides::judge_overrides;
 use crate::statements::number_statements;
 use crate::typing::judge_typings;
 use logic_spec::Spec;
+use numbered_definitions::{Checked, Numbered};
 use nxf_base::{List, Memory};
-use nxf_names::Names;
+use nxf_signatures::Names;
 use nxf_tree::{Body, File, Statement};
 use std::alloc::Global;
 
@@ -95,7 +94,7 @@ pub fn check(alloc: Global, file: &File, spec: &Spec) -> Result<Checked, SortErr
     requires spec { spec_of file.now ≡ Ok (asked_by spec.now) }
     requires regular { IsRegular (allowed_in profiles.Problem) file.now }
     requires weight { file_weight file.now < 2 ^ 31 }
-    ensures judged { MatchResult result (λ c. sort_fault_of (asked_by spec.now) file.now ≡ None) (λ e. IsFileFault (sort_fault_of (asked_by spec.now) file.now) e) }
+    ensures judged { let fault = sort_fault_of (asked_by spec.now) file.now in MatchResult result (λ c. fault ≡ None) (IsFileFault fault) }
     ensures signature { IfOk result (λ c. c.signature ≡ signature_of (asked_by spec.now) file.now) }
     ensures well_formed { IfOk result (λ c. IsWellFormed c.signature) }
     ensures formulas { IfOk result (λ c. all_named c.signature c.formulas ≡ Some (formulas_of file.now)) }
@@ -106,10 +105,10 @@ pub fn check(alloc: Global, file: &File, spec: &Spec) -> Result<Checked, SortErr
     };
     match number_file(alloc, &names, file, spec) {
         Err(error) => Err(error),
-        Ok(formulas) => Ok(Checked {
-            signature: names.into_signature(),
+        Ok(formulas) => Ok(Checked::new(
+            names.into_signature(),
             formulas,
-            depth: greatest_depth(file.statements.as_slice()),
-        }),
+            greatest_depth(file.statements.as_slice()),
+        )),
     }
 }

@@ -4,18 +4,18 @@ ghost use Rattle.std.specs.Prelude.{[], ◌<◌, ◌^◌, length, MatchResult};
 ghost use Rattle.nxf_tree.specs.Sorting.{modal_language};
 ghost use Rattle.nxf_tree.specs.Faults.{first_fault};
 ghost use Rattle.nxf_tree.specs.SortFaults.{formula_fault, formula_statement_fault};
-ghost use Rattle.nxf_sorts.specs.Numbering.{IsFault, IsGoodSignature};
+ghost use Rattle.nxf_sorts.specs.steps.Numbering.{IsFault, IsGoodSignature};
 ghost use Rattle.nxf_sorts.specs.Judging.{IsFileFault};
-ghost use Rattle.nxf_sorts.specs.Statements.{Adds, NumbersStatement, NumbersFile};
+ghost use Rattle.nxf_sorts.specs.steps.Statements.{Adds, NumbersStatement, NumbersFile};
 
 use crate::binders::Binders;
 use crate::error::{SortError, at_statement};
 use crate::fault::Fault;
 use crate::formula::number_formula;
-use crate::node::Numbered;
 use crate::number::put;
+use numbered_definitions::Numbered;
 use nxf_base::{List, Memory, Text};
-use nxf_names::Names;
+use nxf_signatures::Names;
 use nxf_tree::{Body, Formula, Statement};
 use std::alloc::Global;
 

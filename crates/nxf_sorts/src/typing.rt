@@ -14,7 +14,7 @@ use crate::error::{SortError, at_statement};
 use crate::fault::{Fault, fault_of};
 use crate::formula::{found_sort, unknown_sort};
 use nxf_base::{List, Memory, SortKind, Text};
-use nxf_names::{Declarations, Names, SymbolType};
+use nxf_signatures::{Declarations, Names, SymbolType};
 use nxf_tree::{Body, SortName, Statement, Typing};
 use std::alloc::Global;
 

@@ -1,13 +1,12 @@
 //! Annotations, which are dropped.
 
 ghost use Rattle.std.specs.Prelude.{[], ◌∷◌, ◌≡◌, Some, OnOk, IfErr};
-ghost use Rattle.nxf_signs.specs.Input.{Input, kind};
-ghost use Rattle.nxf_signs.specs.declared.sign.Sign.TheVariants as signs;
-ghost use Rattle.nxf_signs.specs.Input.{Gives};
-ghost use Rattle.nxf_statements.specs.Annotations as spec;
-ghost use Rattle.nxf_statements.specs.Moves.{Moves};
+ghost use Rattle.nxf_terminals.specs.declared.sign.Sign.TheVariants as signs;
+ghost use Rattle.nxf_terminals.specs.Input.{Gives};
+ghost use Rattle.syntax_definitions.specs.Annotations as spec;
+ghost use Rattle.syntax_definitions.specs.steps.Moves.{Moves};
 
-use nxf_signs::{Cursor, GrammarError, Sign, same_sign};
+use nxf_terminals::{Cursor, GrammarError, Sign, same_sign};
 use std::alloc::Global;
 use std::marker::Model;
 
@@ -19,7 +18,7 @@ pub struct Open {
 
 impl Model for Open {
     ghost use Rattle.std.specs.Prelude.{List, reverse};
-    ghost use Rattle.nxf_signs.specs.declared.sign.Sign.{Sign};
+    ghost use Rattle.nxf_terminals.specs.declared.sign.Sign.{Sign};
 
     ghost Value = { List Sign };
 
@@ -95,7 +94,7 @@ fn balance(alloc: Global, cursor: &mut Cursor<'_>) -> Result<(), GrammarError>
 }
 
 /// Tokens in which brackets balance, one or more, up to the bracket that closes the statement.
-#[tactic(auto, unfolding(crate::specs::Annotations::annotation))]
+#[tactic(auto, unfolding(syntax_definitions::specs::Annotations::annotation))]
 pub fn annotation(alloc: Global, cursor: &mut Cursor<'_>) -> Result<(), GrammarError>
     ensures { Gives (spec.annotation cursor.old) result cursor.new }
 {
@@ -104,9 +103,3 @@ pub fn annotation(alloc: Global, cursor: &mut Cursor<'_>) -> Result<(), GrammarE
     }
     balance(alloc, cursor)
 }
-
-/// The descent finds exactly the annotations of the grammar.
-pub fn exact_annotation()
-    ensures found { (xs rest : Input) → spec.IsAnnotation xs rest → kind rest ≡ signs.Close → spec.annotation xs ≡ Some (tt, rest) }
-    ensures sound { (xs rest : Input) → spec.annotation xs ≡ Some (tt, rest) → spec.IsAnnotation xs rest }
-{}

@@ -6,7 +6,7 @@ mod logics;
 mod statements;
 mod typings;
 
-pub use annotations::{annotation, exact_annotation};
-pub use logics::{exact_logic, logic};
-pub use statements::{BodyKind, Keyword, exact_statement, statement};
-pub use typings::{exact_typing, typing};
+pub use annotations::annotation;
+pub use logics::logic;
+pub use statements::statement;
+pub use typings::typing;

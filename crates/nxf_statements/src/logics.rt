@@ -1,20 +1,19 @@
 //! Logic statements.
 
-ghost use Rattle.std.specs.Prelude.{[], ◌≡◌, ℕ, length, Some};
-ghost use Rattle.nxf_signs.specs.Input as input;
-ghost use Rattle.nxf_signs.specs.Input.{Gives};
+ghost use Rattle.std.specs.Prelude.{[], ◌≡◌, length};
+ghost use Rattle.nxf_terminals.specs.Input as input;
+ghost use Rattle.nxf_terminals.specs.Input.{Gives};
 ghost use Rattle.nxf_tree.specs.declared.tree.LogicSpec.{LogicSpec};
-ghost use Rattle.nxf_statements.specs.Logic.{IsLogic};
-ghost use Rattle.nxf_statements.specs.ReadLists as lists;
-ghost use Rattle.nxf_statements.specs.ReadLogic as spec;
+ghost use Rattle.syntax_definitions.specs.steps.ReadLists as lists;
+ghost use Rattle.syntax_definitions.specs.steps.ReadLogic as spec;
 
 use nxf_base::{List, Text};
 use nxf_formulas::{index_text, long_index};
-use nxf_signs::{Cursor, GrammarError, Sign, is_dollar, push};
+use nxf_terminals::{Cursor, GrammarError, Sign, is_dollar, push};
 use nxf_tree::{IndexName, LogicSpec, SpecEntry, SpecItem, SpecKey, SpecValue};
 use std::alloc::Global;
 
-#[tactic(auto, unfolding(crate::specs::ReadLogic::spec_key))]
+#[tactic(auto, unfolding(syntax_definitions::specs::steps::ReadLogic::spec_key))]
 fn key(alloc: Global, cursor: &mut Cursor<'_>) -> Result<SpecKey, GrammarError>
     ensures { Gives (spec.spec_key cursor.old) result cursor.new }
 {
@@ -69,7 +68,7 @@ fn dollar_value(
 }
 
 /// Whether a word stands here that is an item by itself.
-#[tactic(auto, unfolding(crate::specs::ReadLogic::stands_alone))]
+#[tactic(auto, unfolding(syntax_definitions::specs::steps::ReadLogic::stands_alone))]
 fn stands_alone(cursor: &Cursor<'_>) -> bool
     ensures { result ≡ spec.stands_alone cursor.now }
 {
@@ -104,7 +103,7 @@ fn inner_entry(
 }
 
 #[cycle(value)]
-#[tactic(auto, unfolding(crate::specs::ReadLogic::item_of))]
+#[tactic(auto, unfolding(syntax_definitions::specs::steps::ReadLogic::item_of))]
 fn item(alloc: Global, cursor: &mut Cursor<'_>, left: usize) -> Result<SpecItem, GrammarError>
     ensures { Gives (spec.item_of (spec.inner_entry left) cursor.old) result cursor.new }
 {
@@ -221,7 +220,7 @@ fn bracketed_entries(
 }
 
 /// A logic statement's body, with so many levels of nesting.
-#[tactic(auto, unfolding(crate::specs::ReadLogic::logic_spec))]
+#[tactic(auto, unfolding(syntax_definitions::specs::steps::ReadLogic::logic_spec))]
 pub fn logic(alloc: Global, cursor: &mut Cursor<'_>, left: usize) -> Result<LogicSpec, GrammarError>
     ensures { Gives (spec.logic_spec left cursor.old) result cursor.new }
 {
@@ -233,9 +232,3 @@ pub fn logic(alloc: Global, cursor: &mut Cursor<'_>, left: usize) -> Result<Logi
     cursor.expect(Sign::LeftBracket)?;
     bracketed_entries(alloc, cursor, left, logic)
 }
-
-/// The descent finds exactly the logic statements of the grammar.
-pub fn exact_logic()
-    ensures found { (left : ℕ) (xs rest : input.Input) (l : LogicSpec) → IsLogic left xs l rest → spec.logic_spec left xs ≡ Some (l, rest) }
-    ensures sound { (left : ℕ) (xs rest : input.Input) (l : LogicSpec) → spec.logic_spec left xs ≡ Some (l, rest) → IsLogic left xs l rest }
-{}

@@ -1,42 +1,27 @@
 //! Statements.
 
-ghost use Rattle.std.specs.Prelude.{[], ◌≡◌, ℕ, Bool, Some, length};
-ghost use Rattle.nxf_signs.specs.Input as input;
-ghost use Rattle.nxf_signs.specs.Input.{Gives};
-ghost use Rattle.nxf_formulas.specs.Parse.{index_text};
-ghost use Rattle.nxf_statements.specs.ReadLists as lists;
+ghost use Rattle.std.specs.Prelude.{[], ◌≡◌, Some, length};
+ghost use Rattle.nxf_terminals.specs.Input as input;
+ghost use Rattle.nxf_terminals.specs.Input.{Gives};
+ghost use Rattle.syntax_definitions.specs.steps.ReadFormulas.{index_text};
+ghost use Rattle.syntax_definitions.specs.steps.ReadLists as lists;
+ghost use Rattle.nxf_tree.specs.Regular as regular;
 ghost use Rattle.nxf_tree.specs.declared.tree.Statement.{Statement};
-ghost use Rattle.nxf_statements.specs.Statements as grammar;
-ghost use Rattle.nxf_statements.specs.Statements.{IsStatement};
-ghost use Rattle.nxf_statements.specs.ReadStatements as spec;
+ghost use Rattle.syntax_definitions.specs.Statements as grammar;
+ghost use Rattle.syntax_definitions.specs.steps.ReadStatements as spec;
 
 use crate::annotations::annotation;
 use crate::logics::logic;
 use crate::typings::typing;
 use nxf_base::{List, Text};
 use nxf_formulas::{formula, index_text};
-use nxf_signs::{Cursor, GrammarError, Sign, is_word, push};
-use nxf_tree::{Body, Role, Statement};
+use nxf_terminals::{Cursor, GrammarError, Sign, is_word, push};
+use nxf_tree::{Body, BodyKind, Role, Statement};
 use std::alloc::Global;
-
-/// What the body of a statement is, by the first word of its role.
-#[derive(Clone, Copy, Debug, PartialEq, Eq)]
-pub enum BodyKind {
-    Typing,
-    Logic,
-    Formula,
-}
-
-/// The word that a statement begins with; `Other` begins none.
-#[derive(Clone, Copy, Debug, PartialEq, Eq)]
-pub enum Keyword {
-    Tff,
-    Include,
-    Other,
-}
+use syntax_definitions::Keyword;
 
 fn body_kind(word: &[u8]) -> BodyKind
-    ensures { result ≡ grammar.body_kind word.now }
+    ensures { result ≡ regular.body_kind word.now }
 {
     if word == b"type".as_slice() {
         BodyKind::Typing
@@ -63,7 +48,7 @@ fn keyword_of(with_includes: bool, word: &[u8]) -> Keyword
     }
 }
 
-#[tactic(auto, unfolding(crate::specs::ReadStatements::word))]
+#[tactic(auto, unfolding(syntax_definitions::specs::steps::ReadStatements::word))]
 fn word(alloc: Global, cursor: &mut Cursor<'_>) -> Result<Text, GrammarError>
     ensures { Gives (spec.word cursor.old) result cursor.new }
 {
@@ -78,7 +63,7 @@ fn word(alloc: Global, cursor: &mut Cursor<'_>) -> Result<Text, GrammarError>
     }
 }
 
-#[tactic(auto, unfolding(crate::specs::ReadStatements::name))]
+#[tactic(auto, unfolding(syntax_definitions::specs::steps::ReadStatements::name))]
 fn name(alloc: Global, cursor: &mut Cursor<'_>) -> Result<Text, GrammarError>
     ensures { Gives (spec.name cursor.old) result cursor.new }
 {
@@ -88,7 +73,7 @@ fn name(alloc: Global, cursor: &mut Cursor<'_>) -> Result<Text, GrammarError>
     }
 }
 
-#[tactic(auto, unfolding(crate::specs::ReadStatements::role))]
+#[tactic(auto, unfolding(syntax_definitions::specs::steps::ReadStatements::role))]
 fn role(alloc: Global, cursor: &mut Cursor<'_>) -> Result<Role, GrammarError>
     ensures { Gives (spec.role cursor.old) result cursor.new }
 {
@@ -131,7 +116,7 @@ fn body(
     }
 }
 
-#[tactic(auto, unfolding(crate::specs::ReadStatements::ended))]
+#[tactic(auto, unfolding(syntax_definitions::specs::steps::ReadStatements::ended))]
 fn ended(cursor: &mut Cursor<'_>, statement: Statement) -> Result<Statement, GrammarError>
     ensures { Gives (spec.ended statement cursor.old) result cursor.new }
 {
@@ -157,7 +142,7 @@ fn noted(
     }
 }
 
-#[tactic(auto, unfolding(crate::specs::ReadStatements::annotated))]
+#[tactic(auto, unfolding(syntax_definitions::specs::steps::ReadStatements::annotated))]
 fn annotated(
     alloc: Global,
     cursor: &mut Cursor<'_>,
@@ -214,7 +199,7 @@ fn included(alloc: Global, cursor: &mut Cursor<'_>, file: Text) -> Result<Statem
     }
 }
 
-#[tactic(auto, unfolding(crate::specs::ReadStatements::include))]
+#[tactic(auto, unfolding(syntax_definitions::specs::steps::ReadStatements::include))]
 fn include_file(alloc: Global, cursor: &mut Cursor<'_>) -> Result<Statement, GrammarError>
     ensures { Gives (spec.include cursor.old) result cursor.new }
 {
@@ -247,7 +232,7 @@ fn statement_after(
 }
 
 /// A statement, through its full stop.
-#[tactic(auto, unfolding(crate::specs::ReadStatements::read_statement))]
+#[tactic(auto, unfolding(syntax_definitions::specs::steps::ReadStatements::read_statement))]
 pub fn statement(
     alloc: Global,
     cursor: &mut Cursor<'_>,
@@ -265,9 +250,3 @@ pub fn statement(
         _ => Err(GrammarError::Syntax(0)),
     }
 }
-
-/// The descent finds exactly the statements of the grammar.
-pub fn exact_statement()
-    ensures found { (with_includes : Bool) (most levels : ℕ) (xs rest : input.Input) (s : Statement) → IsStatement with_includes most levels xs s rest → spec.read_statement with_includes most levels xs ≡ Some (s, rest) }
-    ensures sound { (with_includes : Bool) (most levels : ℕ) (xs rest : input.Input) (s : Statement) → spec.read_statement with_includes most levels xs ≡ Some (s, rest) → IsStatement with_includes most levels xs s rest }
-{}

@@ -1,19 +1,18 @@
 //! Typings and types.
 
-ghost use Rattle.std.specs.Prelude.{[], ◌≡◌, ℕ, true, Some};
-ghost use Rattle.nxf_signs.specs.Input as input;
-ghost use Rattle.nxf_signs.specs.Input.{Gives};
+ghost use Rattle.std.specs.Prelude.{[], ◌≡◌, true, Some};
+ghost use Rattle.nxf_terminals.specs.Input as input;
+ghost use Rattle.nxf_terminals.specs.Input.{Gives};
 ghost use Rattle.nxf_tree.specs.declared.tree.Typing.{Typing};
-ghost use Rattle.nxf_statements.specs.Typings.{IsTyping};
-ghost use Rattle.nxf_statements.specs.ReadTypings as spec;
+ghost use Rattle.syntax_definitions.specs.steps.ReadTypings as spec;
 
 use nxf_base::{List, Text};
 use nxf_formulas::sort_name;
-use nxf_signs::{Cursor, GrammarError, Sign, push};
+use nxf_terminals::{Cursor, GrammarError, Sign, push};
 use nxf_tree::{SortName, Typing};
 use std::alloc::Global;
 
-#[tactic(auto, unfolding(crate::specs::ReadTypings::result))]
+#[tactic(auto, unfolding(syntax_definitions::specs::steps::ReadTypings::result))]
 fn result_sort(alloc: Global, cursor: &mut Cursor<'_>) -> Result<Option<SortName>, GrammarError>
     ensures { Gives (spec.result cursor.old) result cursor.new }
 {
@@ -49,7 +48,7 @@ fn sorts(
     Err(GrammarError::Syntax(0))
 }
 
-#[tactic(auto, unfolding(crate::specs::ReadTypings::are_arguments))]
+#[tactic(auto, unfolding(syntax_definitions::specs::steps::ReadTypings::are_arguments))]
 fn are_arguments(cursor: &Cursor<'_>) -> bool
     ensures { result ≡ spec.are_arguments cursor.now }
 {
@@ -235,9 +234,3 @@ fn typing_from(
         _ => Err(GrammarError::Syntax(0)),
     }
 }
-
-/// The descent finds exactly the typings of the grammar.
-pub fn exact_typing()
-    ensures found { (most left : ℕ) (xs rest : input.Input) (t : Typing) → IsTyping most left xs t rest → spec.ends_type (input.kind rest) ≡ true → spec.typing_of most left xs ≡ Some (t, rest) }
-    ensures sound { (most left : ℕ) (xs rest : input.Input) (t : Typing) → spec.typing_of most left xs ≡ Some (t, rest) → IsTyping most left xs t rest }
-{}

@@ -17,12 +17,12 @@ use Rattle.nxf_tree.specs.Names.{user_name, user_variable, user_sort, world_vari
 use Rattle.nxf_tree.specs.Signature.{is_constant, constant_regime}
 use Rattle.nxf_tree.specs.Embedding.{st_term, st, guarded, over_worlds}
 use Rattle.nxf_tree.specs.WellFormed.{HasDifferentNames}
-use Rattle.nxf_sorts.specs.declared.node.NTerm.{NTerm}
-use Rattle.nxf_sorts.specs.declared.node.Node.{Node}
-use Rattle.nxf_sorts.specs.declared.node.Node as node
-use Rattle.nxf_sorts.specs.NamedForm.{both, symbol_name, sort_name, index_name, named_term, named_terms, named_form, named_forms}
-use Rattle.signature_parts.proofs.Places.{is_constant-place}
-use Rattle.nxf_translate.specs.Forms.{HasTerm, HasTerms, HasForm, HasForms, IsTerm, IsForm, AreForms}
+use Rattle.numbered_definitions.specs.declared.node.NTerm.{NTerm}
+use Rattle.numbered_definitions.specs.declared.node.Node.{Node}
+use Rattle.numbered_definitions.specs.declared.node.Node as node
+use Rattle.numbered_definitions.specs.NamedForm.{both, symbol_name, sort_name, index_name, named_term, named_terms, named_form, named_forms}
+use Rattle.classical_syntax.proofs.Places.{is_constant-place}
+use Rattle.nxf_translate.specs.steps.Forms.{HasTerm, HasTerms, HasForm, HasForms, IsTerm, IsForm, AreForms}
 use Rattle.nxf_translate.proofs.Options.{mapped, joined}
 use Rattle.nxf_translate.proofs.Rows.{of_Not, of_And, of_Or, of_Pair, of_Quant, of_Modal}
 use Rattle.nxf_translate.proofs.TermCases.{named-place, named-at}
@@ -47,10 +47,6 @@ st_of_Or sig w d (f ∷ fs) = ap (put (st sig w d f)) (st_of_Or sig w d fs)
 module _ (sig : Signature) (xs : List (List ℕ)) where
   pub atom-terms : (k : ℕ) (ns : List NTerm) → HasForm sig xs (node.Atom k ns) → HasTerms sig xs ns
   atom-terms k ns h = joined Atom (symbol_name sig k) (named_terms sig xs ns) h.formula h.named (λ p ts e i j. record { terms = ts; named = i })
-
-  pub atom-symbol : (k : ℕ) (ns : List NTerm) → HasForm sig xs (node.Atom k ns) → k < length sig.symbols
-  atom-symbol k ns h =
-      joined Atom (symbol_name sig k) (named_terms sig xs ns) h.formula h.named (λ p ts e i j. named-place (λ (e : SymbolEntry). e.name) sig.symbols k p e)
 
   pub same-left : (a b : NTerm) → HasForm sig xs (node.Same a b) → HasTerm sig xs a
   same-left a b h = joined Same (named_term sig xs a) (named_term sig xs b) h.formula h.named (λ t u e i j. record { term = t; named = e })

@@ -1,5 +1,5 @@
-pub mod Options
+pub mod FormCases
 pub mod Measures
+pub mod Options
 pub mod Rows
 pub mod TermCases
-pub mod FormCases

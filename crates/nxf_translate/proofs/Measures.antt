@@ -4,13 +4,13 @@ use Rattle.std.specs.Prelude.{max}
 use Rattle.nxf_tree.specs.declared.tree.Op.{Op}
 use Rattle.nxf_tree.specs.declared.tree.Quantifier.{Quantifier}
 use Rattle.nxf_tree.specs.declared.tree.Mode.{Mode}
-use Rattle.nxf_sorts.specs.declared.node.NTerm.{NTerm, Bound, Row_of-NTerm, end_of-NTerm, more_of-NTerm}
-use Rattle.nxf_sorts.specs.declared.node.NTerm as numbered
-use Rattle.nxf_sorts.specs.declared.node.NTerm.TheBlock.{hidden-the_row-NTerm-0, items-the_row-NTerm, items_hidden-the_row-NTerm-0}
-use Rattle.nxf_sorts.specs.declared.node.Node.{Node, Row_of-Node, end_of-Node, more_of-Node}
-use Rattle.nxf_sorts.specs.declared.node.Node as node
-use Rattle.nxf_sorts.specs.declared.node.Node.TheBlock.{hidden-the_row-Node-1, items-the_row-Node, items_hidden-the_row-Node-1}
-use Rattle.nxf_sorts.specs.NamedForm.{NodeNot, NodePair, NodeQuant, NodeModal}
+use Rattle.numbered_definitions.specs.declared.node.NTerm.{NTerm, Bound, Row_of-NTerm, end_of-NTerm, more_of-NTerm}
+use Rattle.numbered_definitions.specs.declared.node.NTerm as numbered
+use Rattle.numbered_definitions.specs.declared.node.NTerm.TheBlock.{hidden-the_row-NTerm-0, items-the_row-NTerm, items_hidden-the_row-NTerm-0}
+use Rattle.numbered_definitions.specs.declared.node.Node.{Node, Row_of-Node, end_of-Node, more_of-Node}
+use Rattle.numbered_definitions.specs.declared.node.Node as node
+use Rattle.numbered_definitions.specs.declared.node.Node.TheBlock.{hidden-the_row-Node-1, items-the_row-Node, items_hidden-the_row-Node-1}
+use Rattle.numbered_definitions.specs.NamedForm.{NodeNot, NodePair, NodeQuant, NodeModal}
 use Rattle.nxf_translate.proofs.Rows.{Not_is, Pair_is, Quant_is, Modal_is}
 
 abbrev mutual

@@ -7,13 +7,13 @@ use Rattle.nxf_tree.specs.declared.tree.Mode.{Mode}
 use Rattle.nxf_tree.specs.declared.tree.Signature.{Signature}
 use Rattle.nxf_tree.specs.declared.tree.Term.{App}
 use Rattle.nxf_tree.specs.declared.tree.Formula.{And, Or, Not, Pair, Quant, Modal}
-use Rattle.nxf_sorts.specs.declared.node.NTerm.{NTerm, Row_of-NTerm, end_of-NTerm, more_of-NTerm}
-use Rattle.nxf_sorts.specs.declared.node.NTerm as numbered
-use Rattle.nxf_sorts.specs.declared.node.NTerm.TheBlock.{hidden-the_row-NTerm-0, items-the_row-NTerm, items_hidden-the_row-NTerm-0}
-use Rattle.nxf_sorts.specs.declared.node.Node.{Node, Row_of-Node, end_of-Node, more_of-Node}
-use Rattle.nxf_sorts.specs.declared.node.Node as node
-use Rattle.nxf_sorts.specs.declared.node.Node.TheBlock.{hidden-the_row-Node-0, hidden-the_row-Node-1, items-the_row-Node, items_hidden-the_row-Node-1}
-use Rattle.nxf_sorts.specs.NamedForm.{NodeNot, NodePair, NodeQuant, NodeModal, both, symbol_name, sort_name, index_name, named_term, named_row, named_terms, named_form, named_nodes, named_forms}
+use Rattle.numbered_definitions.specs.declared.node.NTerm.{NTerm, Row_of-NTerm, end_of-NTerm, more_of-NTerm}
+use Rattle.numbered_definitions.specs.declared.node.NTerm as numbered
+use Rattle.numbered_definitions.specs.declared.node.NTerm.TheBlock.{hidden-the_row-NTerm-0, items-the_row-NTerm, items_hidden-the_row-NTerm-0}
+use Rattle.numbered_definitions.specs.declared.node.Node.{Node, Row_of-Node, end_of-Node, more_of-Node}
+use Rattle.numbered_definitions.specs.declared.node.Node as node
+use Rattle.numbered_definitions.specs.declared.node.Node.TheBlock.{hidden-the_row-Node-0, hidden-the_row-Node-1, items-the_row-Node, items_hidden-the_row-Node-1}
+use Rattle.numbered_definitions.specs.NamedForm.{NodeNot, NodePair, NodeQuant, NodeModal, both, symbol_name, sort_name, index_name, named_term, named_row, named_terms, named_form, named_nodes, named_forms}
 use denote.Hole.Carrier.{hidden}
 
 pub Not_is : (n : Node) → node.Not n ≡ NodeNot n

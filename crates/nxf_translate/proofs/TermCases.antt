@@ -12,11 +12,11 @@ use Rattle.nxf_tree.specs.Counting.{has}
 use Rattle.nxf_tree.specs.Signature.{is_flexible, flexible_designation}
 use Rattle.nxf_tree.specs.Embedding.{at_world, st_term, st_terms}
 use Rattle.nxf_tree.specs.WellFormed.{HasDifferentNames}
-use Rattle.nxf_sorts.specs.declared.node.NTerm.{NTerm, Bound}
-use Rattle.nxf_sorts.specs.declared.node.NTerm as numbered
-use Rattle.nxf_sorts.specs.NamedForm.{both, variable, symbol_name, named_term, named_terms}
-use Rattle.signature_parts.proofs.Places.{is_flexible-place}
-use Rattle.nxf_translate.specs.Forms.{HasTerm, HasTerms, IsTerm}
+use Rattle.numbered_definitions.specs.declared.node.NTerm.{NTerm, Bound}
+use Rattle.numbered_definitions.specs.declared.node.NTerm as numbered
+use Rattle.numbered_definitions.specs.NamedForm.{both, variable, symbol_name, named_term, named_terms}
+use Rattle.classical_syntax.proofs.Places.{is_flexible-place}
+use Rattle.nxf_translate.specs.steps.Forms.{HasTerm, HasTerms, IsTerm}
 use Rattle.nxf_translate.proofs.Options.{mapped, joined}
 use Rattle.nxf_translate.proofs.Rows.{of_App}
 

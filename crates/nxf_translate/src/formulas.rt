@@ -7,21 +7,21 @@ ghost use Rattle.nxf_tree.specs.Signature.{constant_regime};
 ghost use Rattle.nxf_tree.specs.WellFormed.{HasDifferentNames};
 ghost use Rattle.nxf_tree.specs.declared.tree.Formula.{Atom};
 ghost use Rattle.nxf_tree.specs.declared.tree.Term.{Var};
-ghost use Rattle.nxf_sorts.specs.declared.node.Node as spec;
-ghost use Rattle.nxf_translate.specs.Forms.{HasForm, HasForms, HasTerms, IsForm, AreForms, IsEmbedded};
-ghost use Rattle.nxf_translate.specs.Place.{term_of};
+ghost use Rattle.numbered_definitions.specs.declared.node.Node as spec;
+ghost use Rattle.nxf_translate.specs.steps.Forms.{HasForm, HasForms, HasTerms, IsForm, AreForms, IsEmbedded};
+ghost use Rattle.nxf_translate.specs.steps.Place.{term_of};
 
 use crate::place::{Place, place_term};
 use crate::terms::{front, translate_term, translate_terms};
+use classical_syntax::{
+    existence_name, is_constant_regime, relation_name, two_terms, user_name, user_sort,
+    user_variable, world_sort, world_variable,
+};
+use numbered_definitions::{NTerm, Node};
 use nxf_base::{List, Memory, Text};
-use nxf_sorts::{NTerm, Node};
 use nxf_tree::{
     Formula, IndexName, Mode, Op, Quantifier, Scope, Signature, SortEntry, Term, both, equation,
     inequation, negated, pair, quantified,
-};
-use signature_parts::{
-    existence_name, is_constant_regime, relation_name, two_terms, user_name, user_sort,
-    user_variable, world_sort, world_variable,
 };
 use sqlite_items::Boxed;
 use std::alloc::Global;

@@ -1,10 +1,10 @@
 //! The world that a formula is translated at.
 ghost use Rattle.std.specs.Prelude.{◌≡◌, IfOk};
-ghost use Rattle.nxf_translate.specs.Place.{term_of};
+ghost use Rattle.nxf_translate.specs.steps.Place.{term_of};
 
+use classical_syntax::{actual_name, world_variable};
 use nxf_base::{List, Memory};
 use nxf_tree::Term;
-use signature_parts::{actual_name, world_variable};
 use std::alloc::Global;
 
 /// The world at which a formula is translated.

@@ -4,15 +4,15 @@ ghost use Rattle.std.specs.Option.{option_map};
 ghost use Rattle.nxf_tree.specs.Embedding.{at_world, st_term};
 ghost use Rattle.nxf_tree.specs.WellFormed.{HasDifferentNames};
 ghost use Rattle.nxf_tree.specs.declared.tree.Term.{Term};
-ghost use Rattle.nxf_sorts.specs.NamedForm.{named_terms};
-ghost use Rattle.nxf_translate.specs.Forms.{HasTerm, HasTerms, IsTerm, AreTerms};
-ghost use Rattle.nxf_translate.specs.Place.{term_of};
+ghost use Rattle.numbered_definitions.specs.NamedForm.{named_terms};
+ghost use Rattle.nxf_translate.specs.steps.Forms.{HasTerm, HasTerms, IsTerm, AreTerms};
+ghost use Rattle.nxf_translate.specs.steps.Place.{term_of};
 
 use crate::place::{Place, place_term};
+use classical_syntax::{is_flexible_designation, user_name, user_variable};
+use numbered_definitions::NTerm;
 use nxf_base::{List, Memory, Text};
-use nxf_sorts::NTerm;
 use nxf_tree::{Signature, Term};
-use signature_parts::{is_flexible_designation, user_name, user_variable};
 use std::alloc::Global;
 
 /// The translation of a term. `binders` are the variables of the enclosing quantifiers from the outside in.

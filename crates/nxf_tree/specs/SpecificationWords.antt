@@ -18,9 +18,9 @@ use Rattle.nxf_tree.specs.Names.{same_text}
 use Rattle.nxf_tree.specs.Counting.{has}
 
 -- what stands under a name in a table whose names all begin with the mark
-abbrev pub named : {A : Type 0} → List ℕ → List (List ℕ × A) → List ℕ → Option A
-named mark [] word = None
-named mark (entry ∷ entries) word = if same_text (mark ++ entry.0) word then Some entry.1 else named mark entries word
+abbrev pub word_named : {A : Type 0} → List ℕ → List (List ℕ × A) → List ℕ → Option A
+word_named mark [] word = None
+word_named mark (entry ∷ entries) word = if same_text (mark ++ entry.0) word then Some entry.1 else word_named mark entries word
 
 -- the words for regimes, designations and localities, without the `$` before them
 abbrev pub regimes : List (List ℕ × Regime)
@@ -72,19 +72,19 @@ modal_axioms =
 
 -- what a word means, if it is one of its kind
 unfoldable pub regime_named : List ℕ → Option Regime
-regime_named = named (codes "$") regimes
+regime_named = word_named (codes "$") regimes
 
 unfoldable pub designation_named : List ℕ → Option Designation
-designation_named = named (codes "$") designations
+designation_named = word_named (codes "$") designations
 
 unfoldable pub locality_named : List ℕ → Option Locality
-locality_named = named (codes "$") localities
+locality_named = word_named (codes "$") localities
 
 unfoldable pub system_named : List ℕ → Option (List Scheme)
-system_named = named (codes "$modal_system_") modal_systems
+system_named = word_named (codes "$modal_system_") modal_systems
 
 unfoldable pub axiom_named : List ℕ → Option (List Scheme)
-axiom_named = named (codes "$modal_axiom_") modal_axioms
+axiom_named = word_named (codes "$modal_axiom_") modal_axioms
 
 -- the words that are a choice by themselves
 abbrev pub stands_alone : Setting → List ℕ → Bool

@@ -3,7 +3,7 @@ ghost use Rattle.std.specs.Prelude.{◌≡◌, ◌<◌, [], ◌∷◌, false, le
 ghost use Rattle.nxf_tree.specs.Signature.{constant_regime};
 ghost use Rattle.nxf_tree.specs.WellFormed.{IsWellFormed};
 ghost use Rattle.nxf_tree.specs.declared.tree.Signature.{Signature};
-ghost use Rattle.fin_struct.specs.KripkeView.{IsKripkeFor, existence_number};
+ghost use Rattle.fin_struct.specs.KripkeTables.{IsKripkeFor, existence_number};
 
 use domains::{axioms, first_fault};
 use fin_struct::{Condition, Kripke};

@@ -2,7 +2,7 @@
 ghost use Rattle.std.specs.Prelude.{◌≡◌, ◌<◌, [], ◌∷◌, length, IfOk};
 ghost use Rattle.nxf_tree.specs.declared.tree.Signature.{Signature};
 ghost use Rattle.nxf_tree.specs.WellFormed.{IsWellFormed, AreOrdered};
-ghost use Rattle.fin_struct.specs.KripkeView.{IsKripkeFor};
+ghost use Rattle.fin_struct.specs.KripkeTables.{IsKripkeFor};
 
 use fin_struct::{Condition, Kripke};
 use frames::{axioms, first_fault};

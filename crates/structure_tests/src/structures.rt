@@ -1,7 +1,7 @@
 // Structures of both kinds: their cells, what is written and read, and their limits.
 ghost use Rattle.std.specs.Prelude.{◌≡◌, ◌<◌, ◌∷◌, [], length, replicate, None, Some, IsSome, codes, IfOk};
 ghost use Rattle.fin_struct.specs.Cells.{bound_of};
-ghost use Rattle.fin_struct.specs.KripkeView.{symbol_table, symbol_row};
+ghost use Rattle.fin_struct.specs.KripkeTables.{symbol_table, symbol_row};
 ghost use Rattle.fin_struct.specs.Places.{InRange};
 
 use fin_struct::{Grid, GridShape, Kripke, ShapeError, Structure, cells, classical};

@@ -2,7 +2,7 @@
 ghost use Rattle.std.specs.Prelude.{◌≡◌, ◌<◌, [], ◌∷◌, length, IfOk, IsSome, Some, codes};
 ghost use Rattle.nxf_tree.specs.WellFormed.{AreOrdered};
 ghost use Rattle.nxf_tree.specs.declared.tree.Signature.{Signature};
-ghost use Rattle.fin_struct.specs.KripkeView.{IsKripkeFor, existence_number};
+ghost use Rattle.fin_struct.specs.KripkeTables.{IsKripkeFor, existence_number};
 
 use fin_struct::{Condition, Kripke};
 use nxf_base::{List, Memory, Text};

@@ -2,7 +2,7 @@
 ghost use Rattle.std.specs.Prelude.{◌≡◌, ◌<◌, [], ◌∷◌, length, Some, IfOk, IsSome};
 ghost use Rattle.nxf_tree.specs.WellFormed.{IsWellFormed};
 ghost use Rattle.nxf_tree.specs.declared.tree.Signature.{Signature};
-ghost use Rattle.fin_struct.specs.KripkeView.{IsKripkeFor, existence_number};
+ghost use Rattle.fin_struct.specs.KripkeTables.{IsKripkeFor, existence_number};
 
 use designation::{axioms, first_fault};
 use fin_struct::{Condition, Kripke};

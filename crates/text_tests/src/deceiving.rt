@@ -3,7 +3,7 @@ ghost use Rattle.std.specs.Prelude.{◌≡◌, ℕ, ◌+◌, ◌-◌, ◌^◌, �
 
 use crate::gathering::append;
 use crate::outcome::{embed_stdin, library_of, summary};
-use nxf_base::{Boxed, CalmSink, Found, Library, LoadError, Sink, SinkError, Text};
+use nxf_base::{BoxedLibrary, CalmSink, Found, Library, LoadError, Sink, SinkError, Text};
 use nxf_include::Roots;
 use nxf_run::run;
 use std::alloc::Global;
@@ -121,7 +121,7 @@ impl Sink for Grudging {
 fn fickle_library(rt: HostRuntime) -> Result<(), Fail> {
     let alloc = rt.alloc();
     let words = embed_stdin(alloc)?;
-    let boxed: Boxed = Box::new(alloc, Fickle { alloc, loads: 0 })?;
+    let boxed: BoxedLibrary = Box::new(alloc, Fickle { alloc, loads: 0 })?;
     let mut roots = Roots::new(alloc);
     if roots.push(boxed).is_err() {
         return Err(Fail::new("no memory"));
@@ -153,8 +153,8 @@ fn fickle_library_first(rt: HostRuntime) -> Result<(), Fail> {
     let alloc = rt.alloc();
     let words = embed_stdin(alloc)?;
     let library = library_of(alloc, &[("-", "tff(c,conjecture,p")])?;
-    let first: Boxed = Box::new(alloc, Fickle { alloc, loads: 0 })?;
-    let second: Boxed = Box::new(alloc, library)?;
+    let first: BoxedLibrary = Box::new(alloc, Fickle { alloc, loads: 0 })?;
+    let second: BoxedLibrary = Box::new(alloc, library)?;
     let mut roots = Roots::new(alloc);
     if roots.push(first).is_err() {
         return Err(Fail::new("no memory"));

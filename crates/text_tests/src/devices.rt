@@ -1,6 +1,6 @@
 // An output that fails at each of its bytes, and a library that is dropped; the libraries stand in boxes.
 use crate::outcome::{embed_stdin, library_of};
-use nxf_base::{Boxed, CalmSink, MemoryLibrary, MemorySink};
+use nxf_base::{BoxedLibrary, CalmSink, MemoryLibrary, MemorySink};
 use nxf_include::Roots;
 use nxf_run::run;
 use std::test::Fail;
@@ -21,7 +21,7 @@ tff(c,conjecture,! [W_0: mk_world] : ( mk_acc(mk_actual,W_0) => p(W_0) ) => p(mk
 fn failing_output(rt: HostRuntime) -> Result<(), Fail> {
     let alloc = rt.alloc();
     let words = embed_stdin(alloc)?;
-    let boxed: Boxed = Box::new(alloc, library_of(alloc, &[("-", PROBLEM)])?)?;
+    let boxed: BoxedLibrary = Box::new(alloc, library_of(alloc, &[("-", PROBLEM)])?)?;
     let mut roots = Roots::new(alloc);
     assert!(rt; roots.push(boxed).is_ok());
     for written in 0..=TRANSLATED.len() {
@@ -45,8 +45,8 @@ fn failing_output(rt: HostRuntime) -> Result<(), Fail> {
 fn dropped_library(rt: HostRuntime) -> Result<(), Fail> {
     let alloc = rt.alloc();
     let words = embed_stdin(alloc)?;
-    let first: Boxed = Box::new(alloc, MemoryLibrary::new(alloc))?;
-    let second: Boxed = Box::new(alloc, library_of(alloc, &[("-", PROBLEM)])?)?;
+    let first: BoxedLibrary = Box::new(alloc, MemoryLibrary::new(alloc))?;
+    let second: BoxedLibrary = Box::new(alloc, library_of(alloc, &[("-", PROBLEM)])?)?;
     let mut roots = Roots::new(alloc);
     assert!(rt; roots.push(first).is_ok());
     assert!(rt; roots.push(second).is_ok());

@@ -2,7 +2,7 @@
 ghost use Rattle.std.specs.Prelude.{◌≡◌, ◌+◌, ◌<◌, ◌^◌, ◌++◌, take, None, Ok, OnOk, OnErr, IsErrOf};
 
 use crate::outcome::library_of;
-use nxf_base::{Boxed, Found, Library, LoadError, Text};
+use nxf_base::{BoxedLibrary, Found, Library, LoadError, Text};
 use nxf_include::{GatherError, Roots, gather, gather_from, load_first, load_one};
 use nxf_tree::{File, Statement};
 use std::alloc::Global;
@@ -30,11 +30,11 @@ fn libraries_in_order(rt: HostRuntime) -> Result<(), Fail> {
     let alloc = rt.alloc();
     let mut roots = Roots::new(alloc);
     assert!(rt; !roots.drop_last());
-    let first: Boxed = Box::new(alloc, library_of(alloc, &[("-", "include('A').")])?)?;
+    let first: BoxedLibrary = Box::new(alloc, library_of(alloc, &[("-", "include('A').")])?)?;
     assert!(rt; roots.push(first).is_ok());
     let mut others = library_of(alloc, &[("-", "tff(x,axiom,p)."), ("A", "tff(y,axiom,p).")])?;
     others.fail_at(3)?;
-    let second: Boxed = Box::new(alloc, others)?;
+    let second: BoxedLibrary = Box::new(alloc, others)?;
     assert!(rt; roots.push(second).is_ok());
     let name = Text::from_bytes(alloc, b"-")?;
     let both = names(alloc, &gather(alloc, &mut roots, &name))?;

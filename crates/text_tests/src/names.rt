@@ -1,10 +1,10 @@
 // Names of printed problems.
-use nxf_base::Text;
-use nxf_tree::{IndexName, SortName};
-use signature_parts::{
+use classical_syntax::{
     axiom_name, element_variable, existence_name, relation_name, user_name, user_variable,
     world_variable,
 };
+use nxf_base::Text;
+use nxf_tree::{IndexName, SortName};
 use std::test::Fail;
 
 #[test]

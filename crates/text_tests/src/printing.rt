@@ -1,12 +1,13 @@
 // Names in quotes, and files that are printed as they were read.
 ghost use Rattle.std.specs.Prelude.{◌≡◌, false};
-ghost use Rattle.nxf_grammar.specs.Profiles.{has_modalities};
+ghost use Rattle.nxf_tree.specs.Profiles.{has_modalities};
 
 use nxf_base::Text;
 use nxf_grammar::{Profile, read_file};
+use printed_text_laws::regular_file_is_printed;
 use std::alloc::Global;
 use std::test::Fail;
-use tf0_printer::{print_file, print_name, regular_file_is_printed};
+use tf0_printer::{print_file, print_name};
 use tptp_lex::lex;
 
 #[test]

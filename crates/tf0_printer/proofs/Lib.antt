@@ -1,13 +1,2 @@
 pub mod Appending
 pub mod Rows
-pub mod WorkedCases
-pub mod LexedAs
-pub mod Writes
-pub mod Spellings
-pub mod Literals
-pub mod Items
-pub mod TextItems
-pub mod ReadItems
-pub mod ReadStatementItems
-pub mod RoundTrip
-pub mod NameRoundTrip

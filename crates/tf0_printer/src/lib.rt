@@ -2,11 +2,9 @@
 #![tactic(auto)]
 
 mod formula;
-mod laws;
 mod name;
 mod statement;
 mod term;
 
-pub use laws::{printed_text_reads_back, regular_file_is_printed};
 pub use name::print_name;
 pub use statement::print_file;

@@ -1,12 +1,12 @@
 //! Names, bare or in quotes.
 ghost use Rattle.std.specs.Prelude.{◌≡◌, ◌↔◌, ◌++◌, flat_map, IfOk, OnOk, IsTrue};
-ghost use Rattle.nxf_signs.specs.declared.sign.Profile.{Profile};
-ghost use Rattle.nxf_signs.specs.Spelled.{is_printable_text};
-ghost use Rattle.tf0_printer.specs.SpelledNames.{SpellsName};
+ghost use Rattle.nxf_tree.specs.declared.profile.Profile.{Profile};
+ghost use Rattle.nxf_base.specs.Bytes.{is_printable_text};
+ghost use Rattle.printed_text_laws.specs.SpelledNames.{SpellsName};
 ghost use Rattle.std.specs.List.{list_all};
 ghost use Rattle.nxf_tree.specs.Text as spec;
 ghost use Rattle.nxf_tree.specs.Text.{name_text, sort_text, escaped_byte};
-ghost use Rattle.tf0_printer.specs.Members.{before_member};
+ghost use Rattle.tf0_printer.specs.steps.Members.{before_member};
 
 use nxf_base::{Memory, Text};
 use nxf_tree::SortName;

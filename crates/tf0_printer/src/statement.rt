@@ -1,11 +1,9 @@
 //! Statements, and whole files.
-ghost use Rattle.std.specs.Prelude.{◌≡◌, ◌≤◌, ◌++◌, false, flat_map, codes, IfOk, OnOk, IsTrue};
+ghost use Rattle.std.specs.Prelude.{◌≡◌, ◌++◌, flat_map, codes, IfOk, OnOk, IsTrue};
 ghost use Rattle.std.specs.List.{join_by, list_all};
-ghost use Rattle.nxf_signs.specs.declared.sign.Profile.{Profile};
-ghost use Rattle.nxf_statements.specs.Regular.{IsRegular};
-ghost use Rattle.nxf_grammar.specs.Levels.{file_levels};
-ghost use Rattle.nxf_grammar.specs.Profiles.{allowed_in, has_modalities, levels_of};
-ghost use Rattle.nxf_grammar.specs.Spells.{Spells};
+ghost use Rattle.nxf_tree.specs.declared.profile.Profile.{Profile};
+ghost use Rattle.syntax_definitions.specs.Levels.{Fits};
+ghost use Rattle.syntax_definitions.specs.Spells.{Spells};
 ghost use Rattle.nxf_tree.specs.Text.{text_of, is_printable, has_text, body_has_text, suffix_text, statement_text, chosen_text, body_text, role_text, typing_text, type_text, result_text, sort_text, name_text};
 
 use crate::formula::write_formula;
@@ -20,7 +18,7 @@ use std::alloc::Global;
 pub fn print_file(alloc: Global, file: &File) -> Result<Vec<u8>, Memory>
     requires printable { IsTrue (is_printable file.now) }
     ensures text { IfOk result (λ text. text.items ≡ text_of file.now) }
-    ensures spells { (p : Profile) → has_modalities p ≡ false → IsRegular (allowed_in p) file.now → file_levels file.now ≤ levels_of p → IfOk result (λ text. Spells p text.items file.now) }
+    ensures spells { (p : Profile) → Fits p file.now → IfOk result (λ text. Spells p text.items file.now) }
 {
     let mut out = Vec::new(alloc);
     write_statements(&mut out, file.statements.as_slice())?;

@@ -4,7 +4,7 @@ use Rattle.std.proofs.lemmas.Bool.Decides.{nat_tests}
 use Rattle.std.proofs.lemmas.Bool.{eqb-true}
 use Rattle.std.specs.Prelude.{◌==◌}
 use Rattle.tptp_lex.specs.declared.front.Class.TheVariants as class
-use Rattle.tptp_lex.specs.Bytes.{is_lower, is_upper, is_digit, is_blank}
+use Rattle.nxf_base.specs.Bytes.{is_lower, is_upper, is_digit, is_blank}
 use Rattle.tptp_lex.specs.Front.{class_of}
 
 pub class_lower : (b : ℕ) → is_lower b ≡ true → class_of b ≡ class.Lower

@@ -10,9 +10,11 @@ use Rattle.tptp_lex.specs.declared.token.Kind.{Kind}
 use Rattle.tptp_lex.specs.declared.token.Kind.TheVariants as kind
 use Rattle.tptp_lex.specs.declared.token.Lexeme.{Lexeme}
 use Rattle.tptp_lex.specs.declared.token.Lexeme.TheVariants as lexeme
-use Rattle.tptp_lex.specs.Bytes.{punctuation, is_word_byte, is_name_byte, is_in_line, is_digit, is_lower, is_upper, is_blank}
+use Rattle.tptp_lex.specs.Punctuation.{punctuation}
+use Rattle.nxf_base.specs.Bytes.{is_word_byte, is_name_byte, is_in_line, is_digit, is_lower, is_upper, is_blank}
 use Rattle.tptp_lex.specs.Front.{class_of, front, front_by, quote_len, quoted, slash, dollar, name_after, number_len, punctuation_len, first_len}
-use Rattle.tptp_lex.specs.Shapes.{begins_then, is_line_comment, is_block_rest, is_block_comment, ends_at_close, closes, is_quoted, is_name_bytes, is_dollar_rest, is_dollar, is_digits, is_fraction, is_exponent, IsOneOf, IsAloneBefore, IsLexeme}
+use Rattle.nxf_base.specs.Bytes.{begins_then}
+use Rattle.tptp_lex.specs.Shapes.{is_line_comment, is_block_rest, is_block_comment, ends_at_close, closes, is_quoted, is_name_bytes, is_dollar_rest, is_dollar, is_digits, is_fraction, is_exponent, IsOneOf, IsAloneBefore, IsLexeme}
 use Rattle.tptp_lex.proofs.Classes.{class_lower, class_upper, class_digit, class_blank, class_at}
 use Rattle.tptp_lex.proofs.Runs.{run_front}
 use Rattle.tptp_lex.proofs.Closed.{close_front, quote_front}

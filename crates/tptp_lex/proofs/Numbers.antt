@@ -5,7 +5,7 @@ use Rattle.std.specs.List.{list_all}
 use Rattle.std.proofs.lemmas.Bool.{and_parts}
 use Rattle.std.proofs.lemmas.Bool.Decides.{nat_tests}
 use Rattle.std.proofs.Math.Seq.{drop-append_seam, drop-append-add}
-use Rattle.tptp_lex.specs.Bytes.{is_digit}
+use Rattle.nxf_base.specs.Bytes.{is_digit}
 use Rattle.tptp_lex.specs.Front.{digits_len, more, fraction_len, signed_len, exponent_len, number_len}
 use Rattle.tptp_lex.specs.Shapes.{is_digits, is_fraction, is_signed, is_exponent}
 use Rattle.tptp_lex.proofs.Runs.{run_front, run_exact, stops}

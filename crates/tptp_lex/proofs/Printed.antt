@@ -1,14 +1,15 @@
 -- Lexemes that a printer writes, each before what follows it.
-use Rattle.std.proofs.Common.{◌≡◌, ℕ, ◌+◌, true, Some, List, [], ◌∷◌, ◌++◌, length, take, refl, ap, subst, ◌∙◌, arith, length-append}
+use Rattle.std.proofs.Common.{◌≡◌, ℕ, ◌+◌, true, Some, List, [], ◌∷◌, ◌++◌, length, take, ap, subst, ◌∙◌, arith, length-append}
 use Rattle.std.specs.List.{list_all}
 use Rattle.std.proofs.lemmas.Bool.{and_parts}
 use Rattle.std.proofs.Math.Seq.{drop-append_seam, take-append_seam}
 use Rattle.tptp_lex.specs.declared.token.Kind.TheVariants as kind
 use Rattle.tptp_lex.specs.declared.token.Lexeme.{Lexeme}
 use Rattle.tptp_lex.specs.declared.token.Lexeme.TheVariants as lexeme
-use Rattle.tptp_lex.specs.Bytes.{is_word_byte, is_lower}
-use Rattle.tptp_lex.specs.Front.{front, front_by, punctuation_len}
-use Rattle.tptp_lex.specs.Shapes.{begins_then, IsLongest}
+use Rattle.nxf_base.specs.Bytes.{is_word_byte, is_lower}
+use Rattle.tptp_lex.specs.Front.{front, front_by}
+use Rattle.nxf_base.specs.Bytes.{begins_then}
+use Rattle.tptp_lex.specs.Shapes.{IsLongest}
 use Rattle.tptp_lex.proofs.Classes.{class_lower}
 use Rattle.tptp_lex.proofs.Runs.{run_exact, stops}
 use Rattle.tptp_lex.proofs.Pieces.{found_longest}
@@ -27,16 +28,3 @@ word_longest (b ∷ bs) rest h stop =
     let t = and_parts (is_lower b) (list_all is_word_byte bs) h in
     let found : front ((b ∷ bs) ++ rest) ≡ Some (lexeme.Token kind.Word, length (b ∷ bs)) = ap (λ c. front_by c b (bs ++ rest)) (class_lower b t.0) ∙ ap (λ (n : ℕ). Some (lexeme.Token kind.Word, n)) (ap (λ (n : ℕ). 1 + n) (run_exact is_word_byte bs rest t.1 stop) ∙ omega arith) in
     spelled_longest (lexeme.Token kind.Word) (b ∷ bs) rest found
-
--- punctuation that nothing goes on with, and punctuation before a blank: both compute
-pub open_longest : (rest : List ℕ) → IsLongest (40 ∷ rest) (lexeme.Token kind.Punct) (40 ∷ []) rest
-unfolding front punctuation_len
-open_longest rest = spelled_longest (lexeme.Token kind.Punct) (40 ∷ []) rest refl
-
-pub equal_longest : (rest : List ℕ) → IsLongest (61 ∷ 32 ∷ rest) (lexeme.Token kind.Punct) (61 ∷ []) (32 ∷ rest)
-unfolding front punctuation_len
-equal_longest rest = spelled_longest (lexeme.Token kind.Punct) (61 ∷ []) (32 ∷ rest) refl
-
-pub implies_longest : (rest : List ℕ) → IsLongest (61 ∷ 62 ∷ 32 ∷ rest) (lexeme.Token kind.Punct) (61 ∷ 62 ∷ []) (32 ∷ rest)
-unfolding front punctuation_len
-implies_longest rest = spelled_longest (lexeme.Token kind.Punct) (61 ∷ 62 ∷ []) (32 ∷ rest) refl

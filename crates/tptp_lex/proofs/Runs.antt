@@ -2,7 +2,7 @@
 use Rattle.std.proofs.Common.{◌≡◌, ℕ, ◌+◌, ◌≤◌, ◌<◌, Bool, true, false, cond, List, [], ◌∷◌, ◌++◌, length, take, refl, arith, one-add}
 use Rattle.std.specs.List.{prefix_len, list_all}
 use Rattle.std.proofs.lemmas.Bool.{and_parts, and_from}
-use Rattle.tptp_lex.specs.Shapes.{begins_then}
+use Rattle.nxf_base.specs.Bytes.{begins_then}
 
 pub run_front : (p : ℕ → Bool) (s a : List ℕ) → list_all p s ≡ true → length s ≤ prefix_len p (s ++ a)
 run_front p [] a h = omega arith

@@ -12,7 +12,8 @@ use Rattle.tptp_lex.specs.declared.token.Kind.{Kind}
 use Rattle.tptp_lex.specs.declared.token.Kind.TheVariants as kind
 use Rattle.tptp_lex.specs.declared.token.Lexeme.{Lexeme}
 use Rattle.tptp_lex.specs.declared.token.Lexeme.TheVariants as lexeme
-use Rattle.tptp_lex.specs.Bytes.{punctuation, is_word_byte, is_name_byte, is_in_line, is_digit, is_lower, is_upper, is_blank}
+use Rattle.tptp_lex.specs.Punctuation.{punctuation}
+use Rattle.nxf_base.specs.Bytes.{is_word_byte, is_name_byte, is_in_line, is_digit, is_lower, is_upper, is_blank}
 use Rattle.tptp_lex.specs.Front.{class_of, front, front_by, close_len, quote_len, slash, dollar, name_after, digits_len, more, fraction_len, signed_len, exponent_len, number_len, punctuation_len, first_len, other}
 use Rattle.tptp_lex.specs.Shapes.{ends_at_close, closes, is_quoted, is_name_bytes, is_dollar_rest, is_digits, is_fraction, is_signed, is_exponent, IsNumber, IsLexeme}
 use Rattle.tptp_lex.proofs.Runs.{run_taken, run_some}

@@ -10,7 +10,7 @@ use Rattle.tptp_lex.specs.declared.token.Kind.{Kind}
 use Rattle.tptp_lex.specs.declared.token.Kind.TheVariants as kind
 use Rattle.tptp_lex.specs.declared.token.Lexeme.TheVariants as lexeme
 use Rattle.tptp_lex.specs.declared.token.Lexeme.{Lexeme}
-use Rattle.tptp_lex.specs.Bytes.{punctuation}
+use Rattle.tptp_lex.specs.Punctuation.{punctuation}
 use Rattle.tptp_lex.specs.Shapes.{is_line_comment, is_block_comment, is_digits, IsOneOf, IsLexeme}
 use Rattle.std.proofs.Math.Seq.{drop-append_seam, take-append_seam}
 use Rattle.tptp_lex.specs.Texts.{IsSpelled}

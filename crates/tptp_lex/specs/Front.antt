@@ -9,7 +9,8 @@ use Rattle.tptp_lex.specs.declared.token.Kind.{Kind}
 use Rattle.tptp_lex.specs.declared.token.Kind.TheVariants as kind
 use Rattle.tptp_lex.specs.declared.token.Lexeme.{Lexeme}
 use Rattle.tptp_lex.specs.declared.token.Lexeme.TheVariants as lexeme
-use Rattle.tptp_lex.specs.Bytes.{punctuation, is_word_byte, is_name_byte, is_in_line, is_digit, is_lower, is_upper, is_blank}
+use Rattle.tptp_lex.specs.Punctuation.{punctuation}
+use Rattle.nxf_base.specs.Bytes.{is_word_byte, is_name_byte, is_in_line, is_digit, is_lower, is_upper, is_blank}
 
 abbrev pub is_in : Run → ℕ → Bool
 is_in run.Word b = is_word_byte b

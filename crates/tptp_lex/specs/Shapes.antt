@@ -1,15 +1,11 @@
 -- The lexemes of TPTP that a file of modal or typed first-order logic uses, each by its spelling and by what follows it.
 use Rattle.std.specs.Prelude.{◌≡◌, ◌≢◌, ◌≤◌, ℕ, Bool, true, false, not, ◌&&◌, ◌||◌, if◌then◌else◌, nat_le, ◌==◌, List, [], ◌∷◌, ◌++◌, length, IsTrue, ◌⊎◌}
-use Rattle.std.specs.List.{list_all}
 use Rattle.tptp_lex.specs.declared.token.Kind.TheVariants as kind
 use Rattle.tptp_lex.specs.declared.token.Lexeme.{Lexeme}
 use Rattle.tptp_lex.specs.declared.token.Lexeme.TheVariants as lexeme
-use Rattle.tptp_lex.specs.Bytes.{punctuation, is_word_byte, is_name_byte, is_in_line, is_digit, is_lower, is_upper, is_blank}
-
--- a byte that passes the first test, and then any number that pass the second
-abbrev pub begins_then : (ℕ → Bool) → (ℕ → Bool) → List ℕ → Bool
-begins_then first others [] = false
-begins_then first others (b ∷ bs) = first b && list_all others bs
+use Rattle.tptp_lex.specs.Punctuation.{punctuation}
+use Rattle.nxf_base.specs.Bytes.{is_word_byte, is_name_byte, is_in_line, is_digit, is_lower, is_upper, is_blank}
+use Rattle.nxf_base.specs.Bytes.{begins_then}
 
 -- a comment that its line ends: `%` and what follows it, without the line feed
 abbrev pub is_line_comment : List ℕ → Bool

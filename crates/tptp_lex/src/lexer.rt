@@ -1,3 +1,4 @@
+//! The tokens of a text.
 ghost use Rattle.std.specs.Prelude.{◌≡◌, ◌≢◌, [], ◌<◌, ◌≤◌, ◌+◌, ◌^◌, ℕ, List, All, length, slice_get, Some, true, drop, Ok, Err, IfOk, IfErr, OnOk, ◌++◌, IsTrue, ◌↔◌};
 ghost use Rattle.tptp_lex.specs.declared.token.Token.{Token};
 ghost use Rattle.tptp_lex.specs.Lexing.{Piece, Begins, Lexes, IsSpan, AreSpans, token_of, IsBadPlace, BeginsClosed};

@@ -4,8 +4,8 @@ use Rattle.nxf_tree.specs.Kripke.{KripkeModel}
 use Rattle.nxf_tree.specs.Structures.{kripke_model}
 use Rattle.fin_struct.specs.declared.condition.Condition.TheVariants.{Local}
 use Rattle.fin_struct.specs.FirstFault.{meets_condition, terms_from, term_conditions}
-use Rattle.fin_struct.specs.KripkeView.{kripke_structure}
-use Rattle.fin_struct.proofs.FirstFaultLemmas.{first_failing, first_told, none_told, term_conditions-all}
+use Rattle.fin_struct.specs.KripkeTables.{kripke_structure}
+use Rattle.structure_laws.proofs.FirstFaultLemmas.{first_failing, first_told, none_told, term_conditions-all}
 use Rattle.designation.proofs.FaultLemmas.{at-symbol, found-symbol, symbol-holds, symbol-fails}
 use Rattle.designation.proofs.faults.first_fault.Goals as goal
 use Rattle.designation.proofs.faults.first_fault.Goals.{Then-not-meets_term, After-loop-place}

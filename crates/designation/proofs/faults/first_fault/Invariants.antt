@@ -1,8 +1,8 @@
 use Rattle.std.proofs.Common.{◌≡◌, drop}
 use Rattle.nxf_tree.specs.Structures.{kripke_model}
 use Rattle.fin_struct.specs.FirstFault.{meets_condition, terms_from, term_conditions}
-use Rattle.fin_struct.specs.KripkeView.{kripke_structure}
-use Rattle.fin_struct.proofs.FirstFaultLemmas.{first_failing}
+use Rattle.fin_struct.specs.KripkeTables.{kripke_structure}
+use Rattle.structure_laws.proofs.FirstFaultLemmas.{first_failing}
 use Rattle.designation.proofs.faults.first_fault.Given as goal
 
 abbrev pub invariant-loop-place : goal.invariant-loop-place

@@ -1,8 +1,8 @@
 use Rattle.std.proofs.Common.{ℕ, sym, arith}
 use Rattle.nxf_tree.specs.Counting.{any_below}
 use Rattle.nxf_tree.specs.Rows.{size_at}
-use Rattle.fin_struct.specs.KripkeView.{exists_in}
-use Rattle.fin_struct.proofs.Counted.{all_fails}
+use Rattle.fin_struct.specs.KripkeTables.{exists_in}
+use Rattle.structure_laws.proofs.Counted.{all_fails}
 use Rattle.domains.proofs.existence.everyone_exists.Goals as goal
 
 pub returns-then-not-is_somewhere : goal.returns-then-not-is_somewhere

@@ -1,6 +1,6 @@
 use Rattle.std.proofs.Common.{ℕ, sym, arith}
-use Rattle.fin_struct.proofs.Counted.{all_fails}
-use Rattle.domains.specs.Steps.{steps_meet}
+use Rattle.structure_laws.proofs.Counted.{all_fails}
+use Rattle.domains.specs.steps.WorldTests.{steps_meet}
 use Rattle.domains.proofs.existence.goes_along.Goals as goal
 
 pub returns-then-not-steps_meet : goal.returns-then-not-steps_meet

@@ -1,6 +1,6 @@
 use Rattle.std.proofs.Common.{ℕ, sym, arith}
-use Rattle.fin_struct.specs.KripkeView.{exists_in}
-use Rattle.fin_struct.proofs.Counted.{any_found}
+use Rattle.fin_struct.specs.KripkeTables.{exists_in}
+use Rattle.structure_laws.proofs.Counted.{any_found}
 use Rattle.domains.proofs.existence.is_somewhere.Goals as goal
 
 pub returns-then-exists : goal.returns-then-exists

@@ -1,8 +1,8 @@
 use Rattle.std.proofs.Common.{ℕ, sym, arith}
 use Rattle.nxf_tree.specs.Counting.{implies}
 use Rattle.nxf_tree.specs.Rows.{size_at}
-use Rattle.fin_struct.specs.KripkeView.{exists_in}
-use Rattle.fin_struct.proofs.Counted.{all_fails, implies_false}
+use Rattle.fin_struct.specs.KripkeTables.{exists_in}
+use Rattle.structure_laws.proofs.Counted.{all_fails, implies_false}
 use Rattle.domains.proofs.existence.keeps.Goals as goal
 
 pub returns-then-not-exists : goal.returns-then-not-exists

@@ -1,6 +1,6 @@
 use Rattle.std.proofs.Common.{◌≡◌, true}
 use Rattle.nxf_tree.specs.Counting.{all_below, implies}
-use Rattle.fin_struct.specs.KripkeView.{exists_in}
+use Rattle.fin_struct.specs.KripkeTables.{exists_in}
 use Rattle.domains.proofs.existence.keeps.Given as goal
 
 abbrev pub invariant-loop-element : goal.invariant-loop-element

@@ -1,7 +1,7 @@
 use Rattle.std.proofs.Common.{sym, arith}
 use Rattle.nxf_tree.specs.Rows.{size_at}
-use Rattle.fin_struct.specs.KripkeView.{exists_in}
-use Rattle.fin_struct.proofs.Counted.{any_found}
+use Rattle.fin_struct.specs.KripkeTables.{exists_in}
+use Rattle.structure_laws.proofs.Counted.{any_found}
 use Rattle.domains.proofs.existence.someone_at.Goals as goal
 
 pub returns-then-exists : goal.returns-then-exists

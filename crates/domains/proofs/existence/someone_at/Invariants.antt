@@ -1,6 +1,6 @@
 use Rattle.std.proofs.Common.{◌≡◌, false}
 use Rattle.nxf_tree.specs.Counting.{any_below}
-use Rattle.fin_struct.specs.KripkeView.{exists_in}
+use Rattle.fin_struct.specs.KripkeTables.{exists_in}
 use Rattle.domains.proofs.existence.someone_at.Given as goal
 
 abbrev pub invariant-loop-element : goal.invariant-loop-element

@@ -1,8 +1,8 @@
 use Rattle.std.proofs.Common.{ℕ, sym, arith}
 use Rattle.nxf_tree.specs.Counting.{implies}
-use Rattle.fin_struct.specs.KripkeView.{related_in}
-use Rattle.fin_struct.proofs.Counted.{all_fails, implies_false}
-use Rattle.domains.specs.Steps.{meets_step}
+use Rattle.fin_struct.specs.KripkeTables.{related_in}
+use Rattle.structure_laws.proofs.Counted.{all_fails, implies_false}
+use Rattle.domains.specs.steps.WorldTests.{meets_step}
 use Rattle.domains.proofs.existence.steps_meet.Goals as goal
 
 pub returns-then-not-meets_step : goal.returns-then-not-meets_step

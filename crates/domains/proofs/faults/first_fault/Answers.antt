@@ -2,10 +2,10 @@ use Rattle.std.proofs.Common.{◌≡◌, ◌≤◌, length, sym, ap, ◌∙◌, 
 use Rattle.std.proofs.lemmas.List.{drop_all}
 use Rattle.nxf_tree.specs.Structures.{kripke_model}
 use Rattle.fin_struct.specs.FirstFault.{domains_from, domain_conditions}
-use Rattle.fin_struct.specs.KripkeView.{kripke_structure}
-use Rattle.fin_struct.specs.KripkeLaws.{HasPlaces}
-use Rattle.fin_struct.proofs.FirstFaultLemmas.{first_failing, first_told, none_told, domain_conditions-all}
-use Rattle.fin_struct.proofs.KripkeNames.{places-law}
+use Rattle.fin_struct.specs.KripkeTables.{kripke_structure}
+use Rattle.structure_laws.specs.KripkeLaws.{HasPlaces}
+use Rattle.structure_laws.proofs.FirstFaultLemmas.{first_failing, first_told, none_told, domain_conditions-all}
+use Rattle.structure_laws.proofs.KripkeNames.{places-law}
 use Rattle.domains.proofs.FaultLemmas.{holds_in, at-sort, sort-none, sort-some}
 use Rattle.domains.proofs.faults.first_fault.Goals as goal
 use Rattle.domains.proofs.faults.first_fault.Goals.{In-Some, After-loop-place}

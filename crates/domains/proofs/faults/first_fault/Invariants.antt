@@ -1,6 +1,6 @@
 use Rattle.std.proofs.Common.{◌≡◌, drop}
 use Rattle.fin_struct.specs.FirstFault.{domains_from, domain_conditions}
-use Rattle.fin_struct.proofs.FirstFaultLemmas.{first_failing}
+use Rattle.structure_laws.proofs.FirstFaultLemmas.{first_failing}
 use Rattle.domains.proofs.FaultLemmas.{holds_in}
 use Rattle.domains.proofs.faults.first_fault.Given as goal
 

@@ -1,7 +1,7 @@
 use Rattle.std.proofs.Common.{◌≡◌, drop}
 use Rattle.fin_struct.specs.FirstFault.{monotone_from}
-use Rattle.fin_struct.proofs.FirstFaultLemmas.{first_failing}
-use Rattle.domains.specs.Steps.{meets_in}
+use Rattle.structure_laws.proofs.FirstFaultLemmas.{first_failing}
+use Rattle.domains.specs.steps.WorldTests.{meets_in}
 use Rattle.domains.proofs.faults.monotone_fault.Given as goal
 
 abbrev pub invariant-loop-index : goal.invariant-loop-index

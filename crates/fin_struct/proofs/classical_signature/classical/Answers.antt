@@ -1,7 +1,7 @@
 use Rattle.std.proofs.Common.{◌≡◌, arith}
 use Rattle.std.proofs.lemmas.Grind.{common_steps}
 use Rattle.nxf_tree.specs.ClassicalSignature.{classical_signature_of}
-use Rattle.nxf_meaning.proofs.NamesDiffer.{names-differ}
+use Rattle.name_laws.proofs.NamesDiffer.{names-differ}
 use Rattle.fin_struct.proofs.ClassicalSorts.{has-sorts}
 use Rattle.fin_struct.proofs.classical_signature.classical.Goals as goal
 use Rattle.fin_struct.proofs.classical_signature.classical.Goals.{In_ok-add_symbols}

@@ -1,7 +1,7 @@
 use Rattle.std.proofs.Common.{◌≡◌, ◌∙◌, ap, sym}
 use Rattle.std.specs.Prelude.{map}
 use Rattle.nxf_tree.specs.Signature.{takes_world}
-use Rattle.fin_struct.specs.KripkeView.{blank_kripke}
+use Rattle.fin_struct.specs.KripkeTables.{blank_kripke}
 use Rattle.fin_struct.proofs.BlankKripke.{blank-is-kripke, blank-is-for, made-kripke, shapes-positive, shapes-small}
 use Rattle.fin_struct.proofs.kripke.make.Goals as goal
 use Rattle.fin_struct.proofs.kripke.make.Goals.{After-len}

@@ -1,7 +1,7 @@
 use Rattle.std.proofs.Common.{◌≡◌, ◌++◌, ◌+◌, ◌≤◌, map, drop, length}
 use Rattle.nxf_tree.specs.Structures.{existence_shapes}
 use Rattle.fin_struct.specs.Cells.{grid_shape}
-use Rattle.fin_struct.specs.KripkeView.{numbers_from}
+use Rattle.fin_struct.specs.KripkeTables.{numbers_from}
 use Rattle.fin_struct.proofs.kripke_tables.add_existences.Given as goal
 
 -- the shapes and the numbers so far, before those of the sorts to come

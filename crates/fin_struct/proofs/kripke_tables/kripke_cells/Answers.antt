@@ -1,6 +1,6 @@
 use Rattle.std.proofs.Common.{◌++◌, arith}
 use Rattle.nxf_tree.specs.Structures.{relation_shapes, existence_shapes, symbol_shapes}
-use Rattle.fin_struct.proofs.KripkeTables.{cells-append}
+use Rattle.fin_struct.proofs.KripkeTableLemmas.{cells-append}
 use Rattle.fin_struct.proofs.kripke_tables.kripke_cells.Goals as goal
 
 pub returns : goal.returns

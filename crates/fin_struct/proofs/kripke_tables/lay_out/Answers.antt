@@ -1,6 +1,6 @@
 use Rattle.std.proofs.Common.{rules, ◌≡◌, ◌+◌, length, arith}
 use Rattle.nxf_tree.specs.Signature as meant
-use Rattle.fin_struct.proofs.KripkeTables.{tables-before, existence-few}
+use Rattle.fin_struct.proofs.KripkeTableLemmas.{tables-before, existence-few}
 use Rattle.fin_struct.proofs.kripke_tables.lay_out.Goals as goal
 use Rattle.fin_struct.proofs.kripke_tables.lay_out.Goals.{After-len-first_symbol}
 

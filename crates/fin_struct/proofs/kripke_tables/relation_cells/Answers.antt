@@ -1,5 +1,5 @@
 use Rattle.std.proofs.Common.{◌∙◌}
-use Rattle.fin_struct.proofs.KripkeTables.{relation-cells}
+use Rattle.fin_struct.proofs.KripkeTableLemmas.{relation-cells}
 use Rattle.fin_struct.proofs.kripke_tables.relation_cells.Goals as goal
 
 pub returns : goal.returns

@@ -1,6 +1,6 @@
 use Rattle.std.proofs.Common.{◌≡◌, true, sym, ◌∙◌}
 use Rattle.nxf_tree.specs.Signature as meant
-use Rattle.fin_struct.proofs.KripkeTables.{world_rows}
+use Rattle.fin_struct.proofs.KripkeTableLemmas.{world_rows}
 use Rattle.fin_struct.proofs.kripke_tables.symbol_rows.Goals as goal
 
 pub returns-then-takes_world : goal.returns-then-takes_world

@@ -1,6 +1,6 @@
 use Rattle.std.proofs.Common.{◌≡◌}
 use Rattle.nxf_tree.specs.Structures.{table_shapes}
-use Rattle.fin_struct.specs.StructureView.{blank_structure}
+use Rattle.fin_struct.specs.StructureTables.{blank_structure}
 use Rattle.fin_struct.proofs.StructureLemmas.{structure_view, all_positive, positive-classical, small_total, made_blank, blank_fits, blank_is_for}
 use Rattle.fin_struct.proofs.structure.make.Goals as goal
 use Rattle.fin_struct.proofs.structure.make.Goals.{In_ok-sizes}

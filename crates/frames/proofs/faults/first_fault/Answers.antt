@@ -5,8 +5,8 @@ use Rattle.nxf_tree.specs.Conditions.{meets_scheme}
 use Rattle.nxf_tree.specs.Structures.{kripke_model}
 use Rattle.fin_struct.specs.declared.condition.Condition.TheVariants.{Frame}
 use Rattle.fin_struct.specs.FirstFault.{frames_from, frame_conditions}
-use Rattle.fin_struct.specs.KripkeView.{related_in, kripke_structure}
-use Rattle.fin_struct.proofs.FirstFaultLemmas.{first_failing, first_told, none_told, frame_conditions-all}
+use Rattle.fin_struct.specs.KripkeTables.{related_in, kripke_structure}
+use Rattle.structure_laws.proofs.FirstFaultLemmas.{first_failing, first_told, none_told, frame_conditions-all}
 use Rattle.frames.proofs.FaultLemmas.{holds_in, at-index, index-none, index-some}
 use Rattle.frames.proofs.faults.first_fault.Goals as goal
 use Rattle.frames.proofs.faults.first_fault.Goals.{In-Some, After-loop-place}

@@ -1,6 +1,6 @@
 use Rattle.std.proofs.Common.{◌≡◌, drop}
 use Rattle.fin_struct.specs.FirstFault.{frames_from, frame_conditions}
-use Rattle.fin_struct.proofs.FirstFaultLemmas.{first_failing}
+use Rattle.structure_laws.proofs.FirstFaultLemmas.{first_failing}
 use Rattle.frames.proofs.FaultLemmas.{holds_in}
 use Rattle.frames.proofs.faults.first_fault.Given as goal
 

@@ -1,7 +1,7 @@
 use Rattle.std.proofs.Common.{◌≡◌, drop}
 use Rattle.nxf_tree.specs.Conditions.{meets_scheme}
-use Rattle.fin_struct.specs.KripkeView.{related_in}
-use Rattle.fin_struct.proofs.FirstFaultLemmas.{first_failing}
+use Rattle.fin_struct.specs.KripkeTables.{related_in}
+use Rattle.structure_laws.proofs.FirstFaultLemmas.{first_failing}
 use Rattle.frames.proofs.faults.first_unmet.Given as goal
 
 abbrev pub invariant-loop-scheme : goal.invariant-loop-scheme

@@ -1,8 +1,8 @@
 use Rattle.std.proofs.Common.{◌≡◌, sym, ap, ◌∙◌, arith}
 use Rattle.nxf_tree.specs.Counting.{all_below}
-use Rattle.fin_struct.specs.KripkeView.{related_in}
-use Rattle.fin_struct.proofs.Counted.{all_fails}
-use Rattle.frames.specs.Steps.{meets_at}
+use Rattle.fin_struct.specs.KripkeTables.{related_in}
+use Rattle.structure_laws.proofs.Counted.{all_fails}
+use Rattle.frames.specs.steps.WorldTests.{meets_at}
 use Rattle.frames.proofs.StepLemmas.{by_worlds}
 use Rattle.frames.proofs.relations.meets.Goals as goal
 

@@ -1,8 +1,8 @@
 use Rattle.std.proofs.Common.{ℕ, sym, arith}
 use Rattle.std.specs.Prelude.{◌&&◌}
 use Rattle.nxf_tree.specs.Counting.{any_below, implies}
-use Rattle.fin_struct.specs.KripkeView.{related_in}
-use Rattle.fin_struct.proofs.Counted.{all_fails, implies_false}
+use Rattle.fin_struct.specs.KripkeTables.{related_in}
+use Rattle.structure_laws.proofs.Counted.{all_fails, implies_false}
 use Rattle.frames.proofs.relations.meets_each.Goals as goal
 
 pub returns-then-not-meet_somewhere : goal.returns-then-not-meet_somewhere

@@ -1,7 +1,7 @@
 use Rattle.std.proofs.Common.{◌≡◌, true}
 use Rattle.std.specs.Prelude.{◌&&◌}
 use Rattle.nxf_tree.specs.Counting.{all_below, any_below, implies}
-use Rattle.fin_struct.specs.KripkeView.{related_in}
+use Rattle.fin_struct.specs.KripkeTables.{related_in}
 use Rattle.frames.proofs.relations.meets_each.Given as goal
 
 abbrev pub invariant-loop-to : goal.invariant-loop-to

@@ -1,6 +1,6 @@
 use Rattle.std.proofs.Common.{sym, arith}
-use Rattle.fin_struct.specs.KripkeView.{related_in}
-use Rattle.fin_struct.proofs.Counted.{all_fails}
+use Rattle.fin_struct.specs.KripkeTables.{related_in}
+use Rattle.structure_laws.proofs.Counted.{all_fails}
 use Rattle.frames.proofs.relations.reaches_all.Goals as goal
 
 pub returns-then-not-related : goal.returns-then-not-related

@@ -2,8 +2,8 @@ use Rattle.std.proofs.Common.{ℕ, sym, arith}
 use Rattle.std.specs.Prelude.{nat_eq}
 use Rattle.std.proofs.lemmas.Bool.{ne_eqb}
 use Rattle.nxf_tree.specs.Counting.{implies}
-use Rattle.fin_struct.specs.KripkeView.{related_in}
-use Rattle.fin_struct.proofs.Counted.{all_fails, implies_false}
+use Rattle.fin_struct.specs.KripkeTables.{related_in}
+use Rattle.structure_laws.proofs.Counted.{all_fails, implies_false}
 use Rattle.frames.proofs.relations.reaches_only.Goals as goal
 
 pub returns-then-only-to : goal.returns-then-only-to

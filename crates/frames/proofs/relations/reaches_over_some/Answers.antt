@@ -1,8 +1,8 @@
 use Rattle.std.proofs.Common.{ℕ, sym, arith}
 use Rattle.std.specs.Prelude.{◌&&◌}
 use Rattle.std.proofs.lemmas.Bool.{and_from}
-use Rattle.fin_struct.specs.KripkeView.{related_in}
-use Rattle.fin_struct.proofs.Counted.{any_found}
+use Rattle.fin_struct.specs.KripkeTables.{related_in}
+use Rattle.structure_laws.proofs.Counted.{any_found}
 use Rattle.frames.proofs.relations.reaches_over_some.Goals as goal
 
 pub returns-then-related-2 : goal.returns-then-related-2

@@ -1,6 +1,6 @@
 use Rattle.std.proofs.Common.{sym, arith}
-use Rattle.fin_struct.specs.KripkeView.{related_in}
-use Rattle.fin_struct.proofs.Counted.{any_found}
+use Rattle.fin_struct.specs.KripkeTables.{related_in}
+use Rattle.structure_laws.proofs.Counted.{any_found}
 use Rattle.frames.proofs.relations.reaches_some.Goals as goal
 
 pub returns-then-related : goal.returns-then-related

@@ -1,6 +1,6 @@
 use Rattle.std.proofs.Common.{◌≡◌, false}
 use Rattle.nxf_tree.specs.Counting.{any_below}
-use Rattle.fin_struct.specs.KripkeView.{related_in}
+use Rattle.fin_struct.specs.KripkeTables.{related_in}
 use Rattle.frames.proofs.relations.reaches_some.Given as goal
 
 abbrev pub invariant-loop-to : goal.invariant-loop-to

@@ -1,7 +1,7 @@
 use Rattle.std.proofs.Common.{ℕ, sym, arith}
 use Rattle.nxf_tree.specs.Counting.{implies}
-use Rattle.fin_struct.specs.KripkeView.{related_in}
-use Rattle.fin_struct.proofs.Counted.{all_fails, implies_false}
+use Rattle.fin_struct.specs.KripkeTables.{related_in}
+use Rattle.structure_laws.proofs.Counted.{all_fails, implies_false}
 use Rattle.frames.proofs.relations.reaches_what.Goals as goal
 
 pub returns-then-not-related : goal.returns-then-not-related

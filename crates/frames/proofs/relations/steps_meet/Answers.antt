@@ -1,8 +1,8 @@
 use Rattle.std.proofs.Common.{ℕ, sym, arith}
 use Rattle.nxf_tree.specs.Counting.{implies}
-use Rattle.fin_struct.specs.KripkeView.{related_in}
-use Rattle.fin_struct.proofs.Counted.{all_fails, implies_false}
-use Rattle.frames.specs.Steps.{meets_step}
+use Rattle.fin_struct.specs.KripkeTables.{related_in}
+use Rattle.structure_laws.proofs.Counted.{all_fails, implies_false}
+use Rattle.frames.specs.steps.WorldTests.{meets_step}
 use Rattle.frames.proofs.relations.steps_meet.Goals as goal
 
 pub returns-then-not-meets_step : goal.returns-then-not-meets_step

@@ -1,7 +1,7 @@
 use Rattle.std.proofs.Common.{◌≡◌, true}
 use Rattle.nxf_tree.specs.Counting.{all_below, implies}
-use Rattle.fin_struct.specs.KripkeView.{related_in}
-use Rattle.frames.specs.Steps.{meets_step}
+use Rattle.fin_struct.specs.KripkeTables.{related_in}
+use Rattle.frames.specs.steps.WorldTests.{meets_step}
 use Rattle.frames.proofs.relations.steps_meet.Given as goal
 
 abbrev pub invariant-loop-to : goal.invariant-loop-to

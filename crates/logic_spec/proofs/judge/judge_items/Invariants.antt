@@ -2,7 +2,7 @@ use Rattle.std.proofs.Common.{◌≡◌, ℕ, [], length}
 use Rattle.std.specs.Option.{option_map}
 use Rattle.nxf_base.specs.declared.status.SpecKind.{SpecKind}
 use Rattle.nxf_tree.specs.Faults.{first_fault}
-use Rattle.logic_spec.specs.Seen.{known}
+use Rattle.logic_spec.specs.steps.Seen.{known}
 use Rattle.logic_spec.proofs.ListFaults.{judge_in, fault_from}
 use Rattle.logic_spec.proofs.judge.judge_items.Given as goal
 

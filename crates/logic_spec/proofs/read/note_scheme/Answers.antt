@@ -3,7 +3,7 @@ use Rattle.std.specs.Option.{unwrap_or}
 use Rattle.indexmap.proofs.MapLemmas.{OnOk-map}
 use Rattle.nxf_tree.specs.declared.tree.SpecValue.{out-SpecValue}
 use Rattle.nxf_tree.specs.Signature.{same_index}
-use Rattle.logic_spec.specs.Noting.{schemes_said}
+use Rattle.logic_spec.specs.steps.Noting.{schemes_said}
 use Rattle.nxf_tree.specs.Specification.{words_in}
 use Rattle.logic_spec.specs.Asked.{override_of, text_of_index}
 use Rattle.logic_spec.proofs.Tables.{noted}

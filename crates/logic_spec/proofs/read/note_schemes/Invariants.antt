@@ -2,7 +2,7 @@ use Rattle.std.proofs.Common.{◌≡◌, ℕ, List, length}
 use Rattle.std.specs.Option.{unwrap_or}
 use Rattle.nxf_tree.specs.declared.tree.IndexName.{IndexName}
 use Rattle.nxf_tree.specs.declared.tree.SpecKey.TheVariants.{Index}
-use Rattle.logic_spec.specs.Noting.{schemes_said}
+use Rattle.logic_spec.specs.steps.Noting.{schemes_said}
 use Rattle.nxf_tree.specs.Specification.{overrides_of, override_or}
 use Rattle.logic_spec.specs.Asked.{override_of, text_of_index}
 use Rattle.logic_spec.proofs.read.note_schemes.Given as goal

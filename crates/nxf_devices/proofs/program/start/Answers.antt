@@ -7,8 +7,8 @@ pub returns : goal.returns
 returns c = record {
   run = _;
   libraries = elim c.match-var.branch [
-    in-Ok+in_ok-3+in_ok-new-in-Ok+in_ok-push-in-Ok w ↦
-      inr (rw (w.roots-is, w.in_ok-push-in-Ok.ensures.ok, c.in_ok-push-2.ensures.ok, c.in_ok-push.ensures.ok, c.new-roots.ensures) refl)
+    | in-Ok+in_ok-3+in_ok-new-in-Ok+in_ok-push-in-Ok w ↦
+        inr (rw (w.roots-is, w.in_ok-push-in-Ok.ensures.ok, c.in_ok-push-2.ensures.ok, c.in_ok-push.ensures.ok, c.new-roots.ensures) refl)
     | in-Err w ↦ inl (rw (w.roots-is, c.in_ok-push-2.ensures.ok, c.in_ok-push.ensures.ok, c.new-roots.ensures) refl)
   ];
   out = ap (λ n. record { held = None; faults = n }) c.new-out.ensures;

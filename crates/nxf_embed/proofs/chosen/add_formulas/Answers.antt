@@ -1,9 +1,9 @@
 use Rattle.std.proofs.Common.{◌≡◌, ℕ, ◌<◌, ◌≤◌, ◌++◌, length, drop, subst, arith, below_more}
 use Rattle.std.specs.Prelude.{slice_get, Some}
-use Rattle.nxf_sorts.specs.declared.node.Numbered.{Numbered}
-use Rattle.nxf_sorts.specs.NamedForm.{IsSortedFormula}
+use Rattle.numbered_definitions.specs.declared.node.Numbered.{Numbered}
+use Rattle.numbered_definitions.specs.NamedForm.{IsSortedFormula}
 use Rattle.nxf_translate.proofs.TermCases.{place-of}
-use Rattle.nxf_embed.specs.Chosen.{chosen}
+use Rattle.nxf_embed.specs.steps.Chosen.{chosen}
 use Rattle.nxf_embed.proofs.Choosing.{loop-step, loop-end}
 use Rattle.nxf_embed.proofs.chosen.add_formulas.Goals as goal
 

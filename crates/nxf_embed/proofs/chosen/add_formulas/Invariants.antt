@@ -1,8 +1,8 @@
 use Rattle.std.proofs.Common.{◌≡◌, ℕ, ◌<◌, ◌≤◌, ◌++◌, List, length, drop}
 use Rattle.std.specs.Prelude.{slice_get, Some}
-use Rattle.nxf_sorts.specs.declared.node.Numbered.{Numbered}
-use Rattle.nxf_sorts.specs.NamedForm.{FormulaStatement, IsSortedFormula, all_named}
-use Rattle.nxf_embed.specs.Chosen.{chosen}
+use Rattle.numbered_definitions.specs.declared.node.Numbered.{Numbered}
+use Rattle.numbered_definitions.specs.NamedForm.{FormulaStatement, IsSortedFormula, all_named}
+use Rattle.nxf_embed.specs.steps.Chosen.{chosen}
 use Rattle.nxf_embed.proofs.chosen.add_formulas.Given as goal
 
 abbrev pub invariant-loop-at : goal.invariant-loop-at

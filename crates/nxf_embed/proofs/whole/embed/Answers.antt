@@ -4,10 +4,12 @@ use Rattle.nxf_tree.specs.ClassicalSignature.{classical_signature_of}
 use Rattle.nxf_tree.specs.Problem.{problem_of, declarations, axiom_statements, embedded_statements}
 use Rattle.nxf_tree.specs.Sorting.{FileIsOver}
 use Rattle.nxf_tree.specs.Text.{is_printable}
-use Rattle.nxf_meaning.proofs.FileLaw.{file-law}
-use Rattle.nxf_meaning.proofs.Whole.{embedding_theorem, equal_worlds}
-use Rattle.nxf_sorts.specs.NamedForm.{formulas_of}
-use Rattle.nxf_embed.specs.Kept.{KeepsCountermodels, KeepsWorlds, HasOneConjectureAtMost}
+use Rattle.embedding_laws.proofs.FileLaw.{file-law}
+use Rattle.embedding_laws.proofs.Whole.{embedding_theorem, equal_worlds}
+use Rattle.numbered_definitions.specs.NamedForm.{formulas_of}
+use Rattle.nxf_tree.specs.Countermodels.{KeepsCountermodels}
+use Rattle.nxf_tree.specs.Countermodels.{KeepsWorlds}
+use Rattle.nxf_embed.specs.Kept.{HasOneConjectureAtMost}
 use Rattle.nxf_embed.proofs.OneConjecture.{one_conjecture}
 use Rattle.nxf_embed.proofs.Printable.{problem_is_printable}
 use Rattle.nxf_embed.proofs.Read.{file-chosen, file-sorted}

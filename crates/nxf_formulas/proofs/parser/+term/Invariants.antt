@@ -1,5 +1,5 @@
 use Rattle.std.proofs.Common.{◌≡◌, ◌+◌, ◌-◌, ◌*◌, []}
-use Rattle.nxf_formulas.specs.Parse.{term, terms_from}
+use Rattle.syntax_definitions.specs.steps.ReadFormulas.{term, terms_from}
 use Rattle.nxf_formulas.proofs.parser.+term.Given as goal
 
 abbrev pub decreases-term : goal.decreases-term

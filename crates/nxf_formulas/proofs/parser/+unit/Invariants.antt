@@ -1,5 +1,5 @@
 use Rattle.std.proofs.Common.{◌≡◌, ◌+◌, ◌-◌, ◌*◌}
-use Rattle.nxf_formulas.specs.Parse.{unit, units, units_from}
+use Rattle.syntax_definitions.specs.steps.ReadFormulas.{unit, units, units_from}
 use Rattle.nxf_formulas.proofs.parser.+unit.Given as goal
 
 abbrev pub decreases-whole : goal.decreases-whole

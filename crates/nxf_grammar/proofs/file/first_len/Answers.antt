@@ -1,6 +1,6 @@
 use Rattle.std.proofs.Common.{sym, ap, ◌∙◌, arith}
-use Rattle.nxf_grammar.specs.Files.{first_len}
-use Rattle.nxf_grammar.proofs.ExactFiles.{stop_here, no_stop, next_len}
+use Rattle.syntax_definitions.specs.steps.ReadFiles.{first_len}
+use Rattle.grammar_laws.proofs.ExactFiles.{stop_here, no_stop, next_len}
 use Rattle.nxf_grammar.proofs.file.first_len.Goals as goal
 
 pub returns-then-sees-clause-value : goal.returns-then-sees-clause-value

@@ -1,5 +1,5 @@
 use Rattle.std.proofs.Common.{◌≡◌, ◌+◌, length}
-use Rattle.nxf_grammar.specs.Files as spec
+use Rattle.syntax_definitions.specs.steps.ReadFiles as spec
 use Rattle.nxf_grammar.proofs.file.first_len.Given as goal
 
 abbrev pub invariant-loop-len : goal.invariant-loop-len

@@ -2,12 +2,13 @@ use Rattle.std.proofs.Common.{◌+◌, ◌++◌, ◌∷◌, [], List, length, sy
 use Rattle.std.specs.List.{All}
 use Rattle.std.proofs.lemmas.List.Elements.{All-drop}
 use Rattle.tptp_lex.specs.declared.token.Token.{Token}
-use Rattle.nxf_signs.specs.Input.{input_of}
+use Rattle.nxf_terminals.specs.Input.{input_of}
 use Rattle.tptp_lex.specs.Lexing.{IsSpan}
 use Rattle.nxf_tree.specs.declared.tree.Statement.{Statement}
-use Rattle.nxf_statements.specs.ReadStatements.{read_statement}
-use Rattle.nxf_grammar.specs.Files.{statement_parts, read_parts, answer}
-use Rattle.nxf_grammar.proofs.ExactFiles.{first_part, none_left, part_refused}
+use Rattle.syntax_definitions.specs.steps.ReadStatements.{read_statement}
+use Rattle.syntax_definitions.specs.Files.{statement_parts}
+use Rattle.syntax_definitions.specs.steps.ReadFiles.{read_parts, answer}
+use Rattle.grammar_laws.proofs.ExactFiles.{first_part, none_left, part_refused}
 use Rattle.nxf_grammar.proofs.file.parts.Goals as goal
 
 pub returns-in-Err : goal.returns-in-Err

@@ -1,9 +1,10 @@
 use Rattle.std.proofs.Common.{◌≡◌, ◌+◌, ◌≤◌, length, []}
 use Rattle.std.specs.List.{All}
-use Rattle.nxf_signs.specs.Input.{input_of}
+use Rattle.nxf_terminals.specs.Input.{input_of}
 use Rattle.tptp_lex.specs.Lexing.{IsSpan}
-use Rattle.nxf_statements.specs.ReadStatements.{read_statement}
-use Rattle.nxf_grammar.specs.Files.{statement_parts, read_parts}
+use Rattle.syntax_definitions.specs.steps.ReadStatements.{read_statement}
+use Rattle.syntax_definitions.specs.Files.{statement_parts}
+use Rattle.syntax_definitions.specs.steps.ReadFiles.{read_parts}
 use Rattle.nxf_grammar.proofs.file.parts.Given as goal
 
 abbrev pub invariant-loop-rest : goal.invariant-loop-rest

@@ -1,6 +1,6 @@
-use Rattle.nxf_grammar.proofs.ExactFiles.{spelled_at, cause_at, file_only, fault_only}
-use Rattle.nxf_grammar.proofs.FineFiles.{all_regular_here, all_regular_any, all_shallow, all_light}
-use Rattle.nxf_grammar.proofs.ReadLevels.{few_levels}
+use Rattle.grammar_laws.proofs.ExactFiles.{spelled_at, cause_at, file_only, fault_only}
+use Rattle.reading_laws.proofs.FineFiles.{all_regular_here, all_regular_any, all_shallow, all_light}
+use Rattle.reading_laws.proofs.ReadLevels.{few_levels}
 use Rattle.nxf_grammar.proofs.file.read_file.Goals as goal
 
 pub returns-clause-read_exactly : goal.returns-clause-read_exactly

@@ -1,8 +1,9 @@
 use Rattle.std.proofs.Common.{List, subst}
 use Rattle.tptp_lex.specs.declared.token.Token.{Token}
-use Rattle.nxf_signs.specs.Input.{input_of}
-use Rattle.nxf_grammar.specs.Files.{statement_parts, AreRead, Explains}
-use Rattle.nxf_grammar.proofs.ExactFiles.{parts_read, file_refused}
+use Rattle.nxf_terminals.specs.Input.{input_of}
+use Rattle.syntax_definitions.specs.Files.{statement_parts, AreRead}
+use Rattle.syntax_definitions.specs.steps.ReadFiles.{Explains}
+use Rattle.grammar_laws.proofs.ExactFiles.{parts_read, file_refused}
 use Rattle.nxf_grammar.proofs.file.read_within.Goals as goal
 
 pub returns-in-Ok-clause-read : goal.returns-in-Ok-clause-read

@@ -1,8 +1,8 @@
 use Rattle.std.proofs.Common.{◌-◌, ◌∙◌, ap, sym, subst, arith, map, [], ◌∷◌}
 use Rattle.std.specs.Vec.Iter.{into_iter_items}
 use Rattle.nxf_tree.specs.Weight.{statement_list_weight}
-use Rattle.nxf_include.specs.Gathered.{Visits}
-use Rattle.nxf_include.specs.Promises.{AreRead, AreFine}
+use Rattle.syntax_definitions.specs.Gathered.{Visits}
+use Rattle.syntax_definitions.specs.Promises.{AreReadStatements, AreFine}
 use Rattle.nxf_include.specs.Roots.{files_of}
 use Rattle.nxf_include.proofs.Callers.{Keeps-same, Keeps-after, fault_after, misses_after}
 use Rattle.nxf_include.proofs.Bringing.{deep, begins, begins_not, met_first, adds_annotated, adds_included, refuses_included, refuses_selected, ends}
@@ -29,7 +29,7 @@ loop-statement-init g t c =
       begins (files_of (map g.L.Library.shelf c.args.libraries.now)) c.args.levels (c.args.levels - 1) c.args.sum c.args.name.now c.in-Ok.file c.new-statements.result _ (omega (arith, c.if-levels-eq0.false)) c.new-statements.ensures all c.in-Ok.ensures.answers,
       c.in-Ok.ensures.keeps,
       subst AreFine (sym c.new-statements.ensures) tt,
-      subst AreRead (sym all) c.in-Ok.ensures.read,
+      subst AreReadStatements (sym all) c.in-Ok.ensures.read,
       omega (arith, c.in-Ok.ensures.counts.1, ap statement_list_weight c.new-statements.ensures, ap statement_list_weight all),
       c.in-Ok.ensures.counts.0,
     )
@@ -59,8 +59,24 @@ returns-in-Err-add_selected-clause-answers g t c =
 pub returns-in-Err-add_selected-clause-keeps : goal.returns-in-Err-add_selected-clause-keeps
 returns-in-Err-add_selected-clause-keeps g t c = Keeps-after _ _ _ c.loop-statement.invariant.3 c.in-Ok-visit.ensures.keeps
 
-pub loop-statement-preserved-in-Include : goal.loop-statement-preserved-in-Include
-loop-statement-preserved-in-Include g t c =
+pub loop-statement-preserved-in-Ok-add_selected : goal.loop-statement-preserved-in-Ok-add_selected
+loop-statement-preserved-in-Ok-add_selected g t c =
+    let kept = c.in-Ok-add_selected.ensures in
+    let rest = into_iter_items c.next.new.self in
+    let next = c.in-Some.ensures.steps.0 ∙ ap (λ s. s ∷ rest) c.in-Include.is in (
+      tt,
+      tt,
+      adds_included _ (c.args.levels - 1) c.loop-statement.statements c.loop-statement.sum _ _ _ _ (files_of (map g.L.Library.shelf c.args.libraries.now)) c.in-Ok-visit.part kept.0 _ c.loop-statement.invariant.2
+          next (met_first _ _ (λ files. Visits files (c.args.levels - 1) c.loop-statement.sum c.in-Include.file) _ c.loop-statement.invariant.3 c.in-Ok-visit.ensures.answers) kept.1 kept.2,
+      Keeps-after _ _ _ c.loop-statement.invariant.3 c.in-Ok-visit.ensures.keeps,
+      included_fine _ _ c.in-Ok-visit.part.statements c.loop-statement.statements _ kept.0 kept.1 kept.2 c.loop-statement.invariant.4 c.in-Ok-visit.ensures.fine,
+      rest_read _ rest _ next c.loop-statement.invariant.5,
+      included_weight _ _ c.args.sum c.loop-statement.sum c.in-Ok-visit.part.sum c.in-Ok-visit.part.statements c.loop-statement.statements _ kept.0 _ rest _ kept.1 kept.2 next c.in-Ok-visit.ensures.counts.1 c.loop-statement.invariant.6,
+      c.in-Ok-visit.ensures.counts.0,
+    )
+
+pub loop-statement-preserved-in-Ok-add_selected-2 : goal.loop-statement-preserved-in-Ok-add_selected-2
+loop-statement-preserved-in-Ok-add_selected-2 g t c =
     let kept = c.in-Ok-add_selected.ensures in
     let rest = into_iter_items c.next.new.self in
     let next = c.in-Some.ensures.steps.0 ∙ ap (λ s. s ∷ rest) c.in-Include.is in (

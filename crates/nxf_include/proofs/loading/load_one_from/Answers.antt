@@ -1,7 +1,7 @@
 use Rattle.std.proofs.Common.{◌≡◌, ◌++◌, ◌∙◌, ap, map, take, Some, arith}
 use Rattle.nxf_include.specs.Roots.{files_of}
 use Rattle.nxf_include.proofs.Refusing.{refuses, at_file, short, long}
-use Rattle.nxf_include.specs.declared.gather_error.GatherError.TheVariants.{TooLong}
+use Rattle.syntax_definitions.specs.declared.gather_error.GatherError.TheVariants.{TooLong}
 use Rattle.nxf_include.proofs.loading.load_one_from.Goals as goal
 
 pub returns-then-len-clause-refusal : goal.returns-then-len-clause-refusal

@@ -1,5 +1,5 @@
 use Rattle.std.proofs.Common.{map, subst}
-use Rattle.nxf_include.specs.Gathered.{ReadsCounted}
+use Rattle.syntax_definitions.specs.Gathered.{ReadsCounted}
 use Rattle.nxf_include.specs.Roots.{files_of}
 use Rattle.nxf_include.proofs.OneFile.{IsOrMemory, goes_on, stops}
 use Rattle.nxf_include.proofs.reading.enter.Goals as goal

@@ -1,6 +1,6 @@
 use mathlib.Core.Logic.{inl}
-use Rattle.nxf_include.specs.Gathered.{Reads, spelled, not_lexed, not_read}
-use Rattle.nxf_include.specs.declared.gather_error.GatherError.TheVariants.{Lex, Syntax}
+use Rattle.syntax_definitions.specs.Gathered.{Reads, spelled, not_lexed, not_read}
+use Rattle.syntax_definitions.specs.declared.gather_error.GatherError.TheVariants.{Lex, Syntax}
 use Rattle.nxf_include.proofs.Promising.{read_statements, problem_depth}
 use Rattle.nxf_include.proofs.OneFile.{refusal_or_memory}
 use Rattle.nxf_include.proofs.reading.read.Goals as goal

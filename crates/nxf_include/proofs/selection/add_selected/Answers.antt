@@ -1,6 +1,6 @@
 use Rattle.std.proofs.Common.{◌∙◌, ap, sym, Some}
 use Rattle.std.specs.List.{filter}
-use Rattle.nxf_include.specs.Gathered.{is_listed}
+use Rattle.syntax_definitions.specs.Gathered.{is_listed}
 use Rattle.nxf_include.proofs.Selecting.{selected_ok, selected_not}
 use Rattle.nxf_include.proofs.selection.add_selected.Goals as goal
 

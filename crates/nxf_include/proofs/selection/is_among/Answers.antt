@@ -1,5 +1,5 @@
 use Rattle.std.proofs.Common.{◌∙◌, sym, ap}
-use Rattle.nxf_include.specs.Gathered.{is_listed}
+use Rattle.syntax_definitions.specs.Gathered.{is_listed}
 use Rattle.nxf_include.proofs.selection.is_among.Goals as goal
 
 pub returns-in-Annotated : goal.returns-in-Annotated

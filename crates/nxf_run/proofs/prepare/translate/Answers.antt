@@ -2,7 +2,7 @@ use Rattle.std.proofs.Common.{◌∙◌, ap}
 use mathlib.Core.Logic.{inr}
 use Rattle.std.proofs.lemmas.Result.{MatchResult-weaker}
 use Rattle.nxf_tree.specs.Text.{text_of}
-use Rattle.nxf_meaning.proofs.FileTheorem.{file-theorem}
+use Rattle.embedding_laws.proofs.FileTheorem.{file-theorem}
 use Rattle.nxf_run.proofs.Reading.{translation, read_as}
 use Rattle.nxf_run.proofs.prepare.translate.Goals as goal
 

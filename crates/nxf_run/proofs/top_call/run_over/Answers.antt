@@ -2,7 +2,7 @@ use Rattle.std.proofs.Common.{◌≢◌, Err, refl, ap}
 use Rattle.nxf_base.specs.declared.status.Status.TheVariants as status
 use Rattle.nxf_run.specs.Ending.{MayEnd}
 use Rattle.nxf_run.specs.Run.{Run, ran, files_told}
-use Rattle.nxf_run.specs.Steps.{Refuses}
+use Rattle.nxf_run.specs.steps.Preparing.{Refuses}
 use Rattle.nxf_run.proofs.Ending.{not_ok, never_ok, ends, reports, complete, refused_ends, write_fault_ends, no_memory_ends}
 use Rattle.nxf_run.proofs.Reading.{is_answer}
 use Rattle.nxf_run.proofs.top_call.run_over.Goals as goal

@@ -5,9 +5,9 @@ use Rattle.std.proofs.lemmas.Grind.{take_at_read}
 use Rattle.nxf_tree.specs.Shapes.{Pair2, Quant1, Modal1, Pair_is, Quant_is, Modal_is}
 use Rattle.nxf_tree.specs.Sorting.{modal_language}
 use Rattle.nxf_tree.specs.SortFaults.{formula_fault}
-use Rattle.nxf_sorts.specs.NamedForm.{named_forms}
-use Rattle.nxf_sorts.specs.Scope.{variables, bound_in}
-use Rattle.nxf_sorts.specs.Numbering.{IsFault, NumbersFormula, KnowsIndexes, formulas_faults}
+use Rattle.numbered_definitions.specs.NamedForm.{named_forms}
+use Rattle.nxf_sorts.specs.steps.Scope.{variables, bound_in}
+use Rattle.nxf_sorts.specs.steps.Numbering.{IsFault, NumbersFormula, KnowsIndexes, formulas_faults}
 use Rattle.nxf_sorts.proofs.UseLemmas.{fault_is}
 use Rattle.nxf_sorts.proofs.FormulaLemmas.{fault_Not, fault_And, fault_Or, same_numbered, differ_numbered, not_numbered, and_numbered, or_numbered, pair_numbered, pair_first, pair_second, quantified_numbered, modal_numbered, knows_member, forms_push}
 use Rattle.nxf_sorts.proofs.formula.+number_formula.Goals as goal

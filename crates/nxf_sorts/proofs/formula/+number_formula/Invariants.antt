@@ -1,8 +1,8 @@
 use Rattle.std.proofs.Common.{◌≡◌, drop, take}
 use Rattle.std.specs.Prelude.{Some}
-use Rattle.nxf_sorts.specs.NamedForm.{named_forms}
-use Rattle.nxf_sorts.specs.Scope.{variables}
-use Rattle.nxf_sorts.specs.Numbering.{KnowsAllIndexes, formulas_faults}
+use Rattle.numbered_definitions.specs.NamedForm.{named_forms}
+use Rattle.nxf_sorts.specs.steps.Scope.{variables}
+use Rattle.nxf_sorts.specs.steps.Numbering.{KnowsAllIndexes, formulas_faults}
 use Rattle.nxf_sorts.proofs.formula.+number_formula.Given as goal
 
 abbrev pub invariant-number_formulas-loop-formula : goal.invariant-number_formulas-loop-formula

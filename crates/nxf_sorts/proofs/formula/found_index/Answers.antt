@@ -1,8 +1,8 @@
 use Rattle.std.proofs.Common.{ap, sym, ◌∙◌}
 use Rattle.std.specs.Prelude.{is_some}
 use Rattle.nxf_tree.specs.Signature.{same_index, index_names}
-use Rattle.nxf_meaning.proofs.Spelling.{true-false}
-use Rattle.nxf_meaning.proofs.ProfileLaw.{same_index-sym}
+use Rattle.name_laws.proofs.Spelling.{true-false}
+use Rattle.name_laws.proofs.SameNames.{same_index-sym}
 use Rattle.nxf_sorts.proofs.FormulaLemmas.{place_some, index_found}
 use Rattle.nxf_sorts.proofs.formula.found_index.Goals as goal
 

@@ -2,11 +2,11 @@ use Rattle.std.proofs.Common.{◌≡◌, ◌+◌, [], ◌∷◌, ◌++◌, get_o
 use Rattle.std.proofs.lemmas.List.{at_drop_more}
 use Rattle.std.proofs.lemmas.Grind.{take_at_read}
 use Rattle.nxf_tree.specs.Signature.{sort_at}
-use Rattle.nxf_sorts.specs.NamedForm.{named_terms}
+use Rattle.numbered_definitions.specs.NamedForm.{named_terms}
 use Rattle.nxf_base.specs.declared.status.SortKind.TheVariants.{FreeVariable, Mismatch}
 use Rattle.nxf_tree.specs.Sorting.{modal_language}
 use Rattle.nxf_tree.specs.SortFaults.{term_fault, arguments_fault}
-use Rattle.nxf_sorts.specs.Scope.{variables, bound_in}
+use Rattle.nxf_sorts.specs.steps.Scope.{variables, bound_in}
 use Rattle.nxf_sorts.proofs.UseLemmas.{fault_is}
 use Rattle.nxf_sorts.proofs.TermLemmas.{variable_numbered, variable_free, symbol_refused, arguments_refused, application_numbered, argument_apart, refused_here, fine_here, named_push}
 use Rattle.nxf_sorts.proofs.number.+number_term.Goals as goal

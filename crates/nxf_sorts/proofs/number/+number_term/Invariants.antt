@@ -3,8 +3,8 @@ use Rattle.std.specs.Prelude.{map, Some}
 use Rattle.nxf_tree.specs.Signature.{sort_at}
 use Rattle.nxf_tree.specs.Sorting.{modal_language}
 use Rattle.nxf_tree.specs.SortFaults.{arguments_fault}
-use Rattle.nxf_sorts.specs.NamedForm.{named_terms}
-use Rattle.nxf_sorts.specs.Scope.{variables, bound_in}
+use Rattle.numbered_definitions.specs.NamedForm.{named_terms}
+use Rattle.nxf_sorts.specs.steps.Scope.{variables, bound_in}
 use Rattle.nxf_sorts.proofs.number.+number_term.Given as goal
 
 abbrev pub invariant-number_terms-loop-term : goal.invariant-number_terms-loop-term

@@ -2,7 +2,7 @@ use Rattle.std.proofs.Common.{None, false, ap, ◌∙◌, sym}
 use Rattle.std.specs.Prelude.{is_some}
 use Rattle.nxf_tree.specs.Counting.{same_truth}
 use Rattle.std.proofs.lemmas.Bool.{eqb-true}
-use Rattle.nxf_meaning.proofs.Spelling.{never}
+use Rattle.name_laws.proofs.Spelling.{never}
 use Rattle.nxf_sorts.proofs.UseLemmas.{fault_is, no_entry, wrong_kind, wrong_count, used}
 use Rattle.nxf_sorts.proofs.number.used_predicate.Goals as goal
 

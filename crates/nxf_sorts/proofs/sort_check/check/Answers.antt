@@ -1,13 +1,13 @@
 use Rattle.std.proofs.Common.{◌≡◌, ◌+◌, ◌^◌, ◌≤◌, length, refl, ap, ◌∙◌, sym, subst, arith}
 use Rattle.logic_spec.specs.Asked.{asked_by}
-use Rattle.nxf_signs.specs.declared.sign.Profile.TheVariants as profiles
-use Rattle.nxf_grammar.specs.Profiles.{allowed_in, most_arguments}
+use Rattle.nxf_tree.specs.declared.profile.Profile.TheVariants as profiles
+use Rattle.nxf_tree.specs.Profiles.{allowed_in, most_arguments}
 use Rattle.nxf_tree.specs.declared.tree.Signature.{Signature}
 use Rattle.nxf_tree.specs.FileDepth.{statement_list_depth}
 use Rattle.nxf_tree.specs.SignatureOf.{signature_of}
 use Rattle.nxf_tree.specs.WellFormed.{IsWellFormed}
-use Rattle.nxf_meaning.proofs.ProfileLaw.{well-sorted}
-use Rattle.nxf_sorts.specs.Checked.{IsChecked}
+use Rattle.signature_laws.proofs.ProfileLaw.{well-sorted}
+use Rattle.numbered_definitions.specs.Checked.{CheckedFile, IsChecked}
 use Rattle.nxf_sorts.proofs.CheckLemmas.{all_sorted, depth_is, few_statements}
 use Rattle.nxf_sorts.proofs.DepthLaw.{statements_shallow}
 use Rattle.nxf_sorts.proofs.WellFormedLaw.{well_formed}
@@ -20,8 +20,8 @@ most = refl
 pub number_file-requires-clause-few : goal.number_file-requires-clause-few
 number_file-requires-clause-few c = omega (arith, few_statements c.args.file.now.statements, c.requires.weight)
 
-pub invariant_of-result : goal.invariant_of-result
-invariant_of-result c =
+pub new-requires : goal.new-requires
+new-requires c =
     let spec = asked_by c.args.spec.now in
     let file = c.args.file.now in
     let sig = signature_of spec file in
@@ -37,5 +37,6 @@ invariant_of-result c =
 pub returns-in-Ok-number_file-clause-well_formed : goal.returns-in-Ok-number_file-clause-well_formed
 returns-in-Ok-number_file-clause-well_formed c =
     let is = c.into_signature.ensures.value ∙ c.in-Ok.ensures.signature in
+    let made = ap (λ (checked : CheckedFile). checked.signature) c.new.ensures in
     let small = subst (λ (s : Signature). length s.sorts + length s.symbols + length s.indexes ≤ 2 ^ 31) is c.into_signature.ensures.small in
-    subst IsWellFormed (sym is) (well_formed (allowed_in profiles.Problem) most (asked_by c.args.spec.now) c.args.file.now c.requires.spec c.requires.regular c.in-Ok-number_file.ensures.0 small)
+    subst IsWellFormed (sym (made ∙ is)) (well_formed (allowed_in profiles.Problem) most (asked_by c.args.spec.now) c.args.file.now c.requires.spec c.requires.regular c.in-Ok-number_file.ensures.0 small)

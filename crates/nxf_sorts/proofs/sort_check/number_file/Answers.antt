@@ -7,11 +7,11 @@ use Rattle.nxf_tree.specs.Sorting.{modal_language}
 use Rattle.nxf_tree.specs.Occurrences.{declared}
 use Rattle.nxf_tree.specs.SignatureOf.{signature_of}
 use Rattle.nxf_tree.specs.SortFaults.{SortFault, type_statement_fault, formula_statement_fault, overrides_fault}
-use Rattle.nxf_names.proofs.Noted.{type_first}
-use Rattle.nxf_sorts.specs.Numbering.{IsGoodSignature}
-use Rattle.nxf_sorts.specs.Statements.{NumbersFile}
-use Rattle.nxf_sorts.proofs.SameFaults.{statements_same}
-use Rattle.nxf_sorts.proofs.TypedLaw.{sorts_differ, indexes-known, typed_in_range}
+use Rattle.nxf_signatures.proofs.Noted.{type_first}
+use Rattle.nxf_sorts.specs.steps.Numbering.{IsGoodSignature}
+use Rattle.nxf_sorts.specs.steps.Statements.{NumbersFile}
+use Rattle.signature_laws.proofs.SameFaults.{statements_same}
+use Rattle.signature_laws.proofs.TypedSignature.{sorts_differ, indexes-known, typed_in_range}
 use Rattle.nxf_sorts.proofs.CheckLemmas.{file_first, file_then, file_is}
 use Rattle.nxf_sorts.proofs.sort_check.number_file.Goals as goal
 

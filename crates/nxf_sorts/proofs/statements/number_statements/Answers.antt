@@ -5,8 +5,8 @@ use Rattle.nxf_tree.specs.declared.tree.Statement.{Statement}
 use Rattle.nxf_tree.specs.Faults.{first_fault}
 use Rattle.nxf_tree.specs.Sorting.{modal_language}
 use Rattle.nxf_tree.specs.SortFaults.{formula_statement_fault}
-use Rattle.nxf_sorts.specs.NamedForm.{formulas_from}
-use Rattle.nxf_sorts.specs.Statements.{KnowsFile}
+use Rattle.numbered_definitions.specs.NamedForm.{formulas_from}
+use Rattle.nxf_sorts.specs.steps.Statements.{KnowsFile}
 use Rattle.nxf_sorts.proofs.TypingLemmas.{fine_here, refused_here}
 use Rattle.nxf_sorts.proofs.StatementLemmas.{from_append, known_at}
 use Rattle.nxf_sorts.proofs.statements.number_statements.Goals as goal

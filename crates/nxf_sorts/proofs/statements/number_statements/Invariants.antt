@@ -3,8 +3,8 @@ use Rattle.std.specs.Prelude.{Some}
 use Rattle.nxf_tree.specs.Faults.{first_fault}
 use Rattle.nxf_tree.specs.Sorting.{modal_language}
 use Rattle.nxf_tree.specs.SortFaults.{formula_statement_fault}
-use Rattle.nxf_sorts.specs.NamedForm.{all_named, formulas_from}
-use Rattle.nxf_sorts.specs.Statements.{KnowsFile}
+use Rattle.numbered_definitions.specs.NamedForm.{all_named, formulas_from}
+use Rattle.nxf_sorts.specs.steps.Statements.{KnowsFile}
 use Rattle.nxf_sorts.proofs.statements.number_statements.Given as goal
 
 abbrev pub invariant-loop-statement : goal.invariant-loop-statement

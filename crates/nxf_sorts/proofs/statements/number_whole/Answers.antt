@@ -1,6 +1,6 @@
 use Rattle.std.proofs.Common.{◌≡◌, [], ◌∷◌, ◌++◌, ap, ◌∙◌, sym, subst}
-use Rattle.nxf_sorts.specs.Numbering.{NumbersFormula}
-use Rattle.nxf_sorts.specs.Statements.{Adds}
+use Rattle.nxf_sorts.specs.steps.Numbering.{NumbersFormula}
+use Rattle.nxf_sorts.specs.steps.Statements.{Adds}
 use Rattle.nxf_sorts.proofs.StatementLemmas.{adds}
 use Rattle.nxf_sorts.proofs.statements.number_whole.Goals as goal
 

@@ -5,8 +5,8 @@ use Rattle.std.proofs.lemmas.Grind.{take_at_read}
 use Rattle.nxf_tree.specs.Faults.{first_fault}
 use Rattle.nxf_tree.specs.Sorting.{modal_language}
 use Rattle.nxf_tree.specs.SortFaults.{type_statement_fault}
-use Rattle.nxf_meaning.proofs.Declared.{declared-append}
-use Rattle.nxf_names.proofs.Lookups.{sort_texts-append}
+use Rattle.name_laws.proofs.Appended.{declared-append}
+use Rattle.nxf_signatures.proofs.Lookups.{sort_texts-append}
 use Rattle.nxf_sorts.proofs.UseLemmas.{fault_is}
 use Rattle.nxf_sorts.proofs.TypingLemmas.{statement_is, fine_here, refused_here}
 use Rattle.nxf_sorts.proofs.typing.judge_typings.Goals as goal

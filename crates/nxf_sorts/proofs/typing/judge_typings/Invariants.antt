@@ -6,7 +6,7 @@ use Rattle.nxf_tree.specs.Faults.{first_fault}
 use Rattle.nxf_tree.specs.Occurrences.{declared}
 use Rattle.nxf_tree.specs.SignatureOf.{same_symbol}
 use Rattle.nxf_tree.specs.SortFaults.{type_statement_fault}
-use Rattle.nxf_names.specs.Tables.{uses_in, sort_texts}
+use Rattle.nxf_signatures.specs.steps.Tables.{uses_in, sort_texts}
 use Rattle.nxf_sorts.proofs.typing.judge_typings.Given as goal
 
 abbrev pub invariant-loop-statement : goal.invariant-loop-statement

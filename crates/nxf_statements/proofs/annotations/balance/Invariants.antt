@@ -1,5 +1,5 @@
 use Rattle.std.proofs.Common.{◌≡◌, [], length}
-use Rattle.nxf_statements.specs.Annotations as spec
+use Rattle.syntax_definitions.specs.Annotations as spec
 use Rattle.nxf_statements.proofs.annotations.balance.Given as goal
 
 abbrev pub invariant-loop-cursor : goal.invariant-loop-cursor

@@ -1,9 +1,9 @@
 use Rattle.std.proofs.Common.{rules, arith}
 use Rattle.std.proofs.lemmas.Grind.{common_steps}
-use Rattle.nxf_statements.specs.ReadLists.{list_from}
-use Rattle.nxf_statements.specs.ReadLogic.{item_of, inner_entry}
-use Rattle.nxf_signs.proofs.Turns.{one_more, no_more}
-use Rattle.nxf_statements.proofs.Levels.{value_is}
+use Rattle.syntax_definitions.specs.steps.ReadLists.{list_from}
+use Rattle.syntax_definitions.specs.steps.ReadLogic.{item_of, inner_entry}
+use Rattle.nxf_terminals.proofs.Turns.{one_more, no_more}
+use Rattle.syntax_definitions.proofs.Levels.{value_is}
 use Rattle.nxf_statements.proofs.logics.+value.Goals as goal
 
 pub value-returns : goal.value-returns

@@ -1,6 +1,6 @@
 use Rattle.std.proofs.Common.{◌≡◌, ◌+◌, ◌-◌, ◌*◌, [], length}
-use Rattle.nxf_statements.specs.ReadLists.{list_from}
-use Rattle.nxf_statements.specs.ReadLogic.{item_of, inner_entry}
+use Rattle.syntax_definitions.specs.steps.ReadLists.{list_from}
+use Rattle.syntax_definitions.specs.steps.ReadLogic.{item_of, inner_entry}
 use Rattle.nxf_statements.proofs.logics.+value.Given as goal
 
 abbrev pub decreases-entry : goal.decreases-entry

@@ -1,6 +1,6 @@
 use Rattle.std.proofs.Common.{◌≡◌, ◌-◌, [], length}
-use Rattle.nxf_statements.specs.ReadLists.{list_from}
-use Rattle.nxf_statements.specs.ReadLogic.{entry_with, value_of}
+use Rattle.syntax_definitions.specs.steps.ReadLists.{list_from}
+use Rattle.syntax_definitions.specs.steps.ReadLogic.{entry_with, value_of}
 use Rattle.nxf_statements.proofs.logics.entries.Given as goal
 
 abbrev pub invariant-loop-turn : goal.invariant-loop-turn

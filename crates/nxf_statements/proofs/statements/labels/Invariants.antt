@@ -1,6 +1,6 @@
 use Rattle.std.proofs.Common.{◌≡◌, ◌-◌, [], length}
-use Rattle.nxf_formulas.specs.Parse.{index_text}
-use Rattle.nxf_statements.specs.ReadLists.{list_from}
+use Rattle.syntax_definitions.specs.steps.ReadFormulas.{index_text}
+use Rattle.syntax_definitions.specs.steps.ReadLists.{list_from}
 use Rattle.nxf_statements.proofs.statements.labels.Given as goal
 
 abbrev pub invariant-loop-turn : goal.invariant-loop-turn

@@ -1,5 +1,5 @@
 use Rattle.std.proofs.Common.{◌≡◌, ◌-◌, []}
-use Rattle.nxf_statements.specs.ReadTypings.{sorts_from}
+use Rattle.syntax_definitions.specs.steps.ReadTypings.{sorts_from}
 use Rattle.nxf_statements.proofs.typings.sorts.Given as goal
 
 abbrev pub invariant-loop-turn : goal.invariant-loop-turn

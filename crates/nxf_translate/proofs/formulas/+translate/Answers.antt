@@ -4,8 +4,8 @@ use Rattle.std.proofs.lemmas.Grind.{take_at_read}
 use Rattle.nxf_tree.specs.declared.tree.Term.{Var}
 use Rattle.nxf_tree.specs.Names.{world_variable}
 use Rattle.nxf_tree.specs.Embedding.{st}
-use Rattle.nxf_translate.specs.Forms.{HasForm, HasForms, IsForm}
-use Rattle.nxf_translate.specs.Place.{term_of}
+use Rattle.nxf_translate.specs.steps.Forms.{HasForm, HasForms, IsForm}
+use Rattle.nxf_translate.specs.steps.Place.{term_of}
 use Rattle.nxf_translate.proofs.Options.{made}
 use Rattle.nxf_translate.proofs.Measures.{node_depth, nodes_depth, depth_of_Not, depth_of_And, depth_of_Or, depth_of_Pair, depth_of_Quant, depth_of_Modal, node_at}
 use Rattle.nxf_translate.proofs.FormCases.{not-part, and-parts, or-parts, pair-left, pair-right, quant-sort, quant-body, modal-index, modal-body, not-is, and-is, or-is, pair-is, quant-is, modal-is, form-at, forms-step}

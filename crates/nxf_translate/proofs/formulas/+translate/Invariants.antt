@@ -1,7 +1,7 @@
 use Rattle.std.proofs.Common.{◌≡◌, ◌+◌, ◌*◌, take}
 use Rattle.std.specs.Prelude.{max}
-use Rattle.nxf_translate.specs.Forms.{AreForms}
-use Rattle.nxf_translate.specs.Place.{term_of}
+use Rattle.nxf_translate.specs.steps.Forms.{AreForms}
+use Rattle.nxf_translate.specs.steps.Place.{term_of}
 use Rattle.nxf_translate.proofs.Measures.{node_depth, nodes_depth}
 use Rattle.nxf_translate.proofs.formulas.+translate.Given as goal
 

@@ -2,8 +2,8 @@ use Rattle.std.proofs.Common.{◌≡◌, ◌+◌, ◌++◌, [], get_or, take, ap
 use Rattle.std.specs.Prelude.{map}
 use Rattle.std.proofs.lemmas.Grind.{take_at_read}
 use Rattle.nxf_tree.specs.Embedding.{at_world, st_term}
-use Rattle.nxf_translate.specs.Forms.{HasTerm, HasTerms}
-use Rattle.nxf_translate.specs.Place.{term_of}
+use Rattle.nxf_translate.specs.steps.Forms.{HasTerm, HasTerms}
+use Rattle.nxf_translate.specs.steps.Place.{term_of}
 use Rattle.nxf_translate.proofs.Measures.{term_depth, terms_depth, depth_of_App, term_at}
 use Rattle.nxf_translate.proofs.TermCases.{bound-place, bound-is, app-arguments, app-symbol, app-is, term-at, terms-step}
 use Rattle.nxf_translate.proofs.terms.+translate_term.Goals as goal

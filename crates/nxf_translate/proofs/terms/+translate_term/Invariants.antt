@@ -2,8 +2,8 @@ use Rattle.std.proofs.Common.{◌≡◌, ◌+◌, ◌*◌, ◌++◌, List, take}
 use Rattle.std.specs.Prelude.{map, Some}
 use Rattle.nxf_tree.specs.declared.tree.Term.{Term}
 use Rattle.nxf_tree.specs.Embedding.{st_term}
-use Rattle.nxf_sorts.specs.NamedForm.{named_terms}
-use Rattle.nxf_translate.specs.Place.{term_of}
+use Rattle.numbered_definitions.specs.NamedForm.{named_terms}
+use Rattle.nxf_translate.specs.steps.Place.{term_of}
 use Rattle.nxf_translate.proofs.Measures.{term_depth, terms_depth}
 use Rattle.nxf_translate.proofs.terms.+translate_term.Given as goal
 

@@ -1,6 +1,6 @@
 use Rattle.std.proofs.Common.{◌<◌, length}
 use Rattle.std.specs.Option.{IsSome}
-use Rattle.fin_struct.specs.KripkeView.{IsKripkeFor, existence_number}
+use Rattle.fin_struct.specs.KripkeTables.{IsKripkeFor, existence_number}
 use Rattle.structure_tests.proofs.existence.fault_of.Given as goal
 
 abbrev pub invariant-loop-world : goal.invariant-loop-world

@@ -1,5 +1,5 @@
 use Rattle.std.proofs.Common.{◌<◌}
-use Rattle.fin_struct.specs.KripkeView.{IsKripkeFor}
+use Rattle.fin_struct.specs.KripkeTables.{IsKripkeFor}
 use Rattle.structure_tests.proofs.relations.with_pairs.Given as goal
 
 abbrev pub invariant-loop-from : goal.invariant-loop-from

@@ -1,6 +1,6 @@
 use Rattle.std.proofs.Common.{◌<◌, length, IsSome}
 use Rattle.nxf_tree.specs.declared.tree.Signature.{Signature}
-use Rattle.fin_struct.specs.KripkeView.{IsKripkeFor, existence_number}
+use Rattle.fin_struct.specs.KripkeTables.{IsKripkeFor, existence_number}
 use Rattle.structure_tests.proofs.thousand_worlds.let_exist.Given as goal
 
 abbrev pub invariant-loop-element : goal.invariant-loop-element

@@ -1,6 +1,6 @@
 use Rattle.std.proofs.Common.{◌≡◌, ◌<◌}
 use Rattle.nxf_tree.specs.declared.tree.Signature.{Signature}
-use Rattle.fin_struct.specs.KripkeView.{IsKripkeFor}
+use Rattle.fin_struct.specs.KripkeTables.{IsKripkeFor}
 use Rattle.structure_tests.proofs.thousand_worlds.relate_worlds.Given as goal
 
 abbrev pub invariant-loop-to : goal.invariant-loop-to

@@ -1,6 +1,6 @@
 use Rattle.std.proofs.Common.{◌++◌, ap, ◌∙◌}
 use Rattle.nxf_tree.specs.Text.{name_text}
-use Rattle.tf0_printer.proofs.NameRoundTrip.{printed_bare, printed_name}
+use Rattle.printed_text_laws.proofs.NameRoundTrip.{printed_bare, printed_name}
 use Rattle.tf0_printer.proofs.name.print_name.Goals as goal
 
 pub returns-clause-bare : goal.returns-clause-bare

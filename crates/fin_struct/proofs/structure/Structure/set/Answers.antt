@@ -1,6 +1,6 @@
 use Rattle.std.proofs.Common.{ap, ◌∙◌}
 use Rattle.fin_struct.specs.RowLists.{shapes_of}
-use Rattle.fin_struct.specs.StructureView.{StructureView}
+use Rattle.fin_struct.specs.StructureTables.{StructureTables}
 use Rattle.fin_struct.proofs.StructureLemmas.{written_structure, written_shapes_of}
 use Rattle.fin_struct.proofs.structure.Structure.set.Goals as goal
 
@@ -12,4 +12,4 @@ pub returns-clause-shapes : goal.returns-clause-shapes
 returns-clause-shapes c =
     ap shapes_of c.set.ensures.written
     ∙ written_shapes_of c.self.inside.grid c.args.table c.args.args.now c.args.value
-    ∙ ap (λ (view : StructureView). shapes_of view.tables) c.self.view_is
+    ∙ ap (λ (view : StructureTables). shapes_of view.tables) c.self.view_is

@@ -2,8 +2,8 @@ use Rattle.std.proofs.Common.{◌≡◌, Some, ◌∙◌, sym, subst, cond}
 use Rattle.std.specs.Map.{lookup}
 use Rattle.nxf_tree.specs.Names.{same_text}
 use Rattle.nxf_sorts.specs.declared.binders.Binder.{Binder}
-use Rattle.nxf_sorts.specs.Scope.{found}
-use Rattle.nxf_sorts.specs.InStep.{scope_of, IsInStep}
+use Rattle.nxf_sorts.specs.steps.Scope.{found}
+use Rattle.nxf_sorts.specs.steps.InStep.{scope_of, IsInStep}
 use Rattle.nxf_sorts.proofs.ScopeLemmas.{entered}
 use Rattle.nxf_sorts.proofs.binders.Binders.enter.Goals as goal
 

@@ -1,0 +1,4 @@
+pub mod AddingDomains
+pub mod AddingFrames
+pub mod AddingTerms
+pub mod Rows

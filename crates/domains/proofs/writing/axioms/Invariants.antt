@@ -1,6 +1,0 @@
-use Rattle.std.proofs.Common.{◌≡◌, take}
-use Rattle.nxf_tree.specs.Axioms.{domain_axioms_of}
-use Rattle.domains.proofs.writing.axioms.Given as goal
-
-abbrev pub invariant-loop-sort : goal.invariant-loop-sort
-invariant-loop-sort l = l.made ≡ domain_axioms_of l.signature (take l.sort-index l.sort-items)

@@ -1,0 +1,11 @@
+pub mod DomainLaw
+pub mod FileLaw
+pub mod FileTheorem
+pub mod FrameLaw
+pub mod Free
+pub mod ProblemLaw
+pub mod SortedAxioms
+pub mod TermLaw
+pub mod Terms
+pub mod Transfer
+pub mod Whole

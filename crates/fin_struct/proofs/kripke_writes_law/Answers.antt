@@ -1,5 +1,0 @@
-use Rattle.fin_struct.proofs.KripkeWritesLemmas.{pair-law, existence-law, row-law}
-use Rattle.fin_struct.proofs.kripke_writes_law.Goals as goal
-
-pub returns : goal.returns
-returns c = record { pair = pair-law; existence = existence-law; row = row-law }

@@ -1,9 +1,0 @@
-use Rattle.fin_struct.proofs.RowListsLemmas.{lists-tell, lists-fit, lists-determine}
-use Rattle.fin_struct.proofs.row_lists_law.Goals as goal
-
-pub returns : goal.returns
-returns c = record {
-  tell = lists-tell;
-  fit = lists-fit;
-  determine = lists-determine;
-}

@@ -1,0 +1,4 @@
+pub mod ExactlyOne
+pub mod OneGathering
+pub mod SomeGathering
+pub mod SomeReading

@@ -1,0 +1,9 @@
+pub mod Complete
+pub mod Exact
+pub mod ExactAnnotations
+pub mod ExactFiles
+pub mod ExactLogic
+pub mod ExactStatements
+pub mod ExactTypings
+pub mod Lists
+pub mod Sound

@@ -1,0 +1,16 @@
+pub mod Apart
+pub mod Appended
+pub mod Bounds
+pub mod Entries
+pub mod Firsts
+pub mod Found
+pub mod GoodSymbols
+pub mod Lists
+pub mod NamesDiffer
+pub mod Naming
+pub mod OneForOne
+pub mod SameNames
+pub mod SortedFormulas
+pub mod Spelling
+pub mod Tables
+pub mod Types

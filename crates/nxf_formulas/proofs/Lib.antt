@@ -1,8 +1,0 @@
-pub mod Refusals
-pub mod Complete
-pub mod Sound
-pub mod Exact
-pub mod Left
-pub mod RegularTrees
-pub mod Weights
-pub mod Fine

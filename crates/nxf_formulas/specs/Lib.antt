@@ -1,4 +1,0 @@
-pub mod Operators
-pub mod Grammar
-pub mod Parse
-pub mod Regular

@@ -1,4 +1,0 @@
-pub mod ExactFiles
-pub mod FineFiles
-pub mod LevelsOfTrees
-pub mod ReadLevels

@@ -1,4 +1,0 @@
-pub mod Files
-pub mod Levels
-pub mod Profiles
-pub mod Spells

@@ -1,9 +1,0 @@
-use Rattle.nxf_include.proofs.ExactlyOne.{exactly_one_gathering}
-use Rattle.nxf_include.proofs.SomeGathering.{gathering_of_files}
-use Rattle.nxf_include.proofs.laws.one_gathering.Goals as goal
-
-pub returns-clause-one : goal.returns-clause-one
-returns-clause-one c = exactly_one_gathering
-
-pub returns-clause-of_files : goal.returns-clause-of_files
-returns-clause-of_files c = gathering_of_files

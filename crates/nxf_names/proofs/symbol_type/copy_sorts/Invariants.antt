@@ -1,5 +1,0 @@
-use Rattle.std.proofs.Common.{◌≡◌, take}
-use Rattle.nxf_names.proofs.symbol_type.copy_sorts.Given as goal
-
-abbrev pub invariant-loop-sort : goal.invariant-loop-sort
-invariant-loop-sort l = l.copies ≡ take l.sort-index l.sorts

@@ -1,3 +1,0 @@
-pub mod Tools
-pub mod Turns
-pub mod Spelled

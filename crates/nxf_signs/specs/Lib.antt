@@ -1,4 +1,0 @@
-pub mod Names
-pub mod Signs
-pub mod Input
-pub mod Spelled

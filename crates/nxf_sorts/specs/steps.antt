@@ -1,0 +1,4 @@
+pub mod InStep
+pub mod Numbering
+pub mod Scope
+pub mod Statements

@@ -1,8 +1,0 @@
-use Rattle.nxf_statements.proofs.ExactAnnotations.{annotation_found, annotation_sound}
-use Rattle.nxf_statements.proofs.annotations.exact_annotation.Goals as goal
-
-pub returns-clause-found : goal.returns-clause-found
-returns-clause-found c = λ xs rest d h. annotation_found d h
-
-pub returns-clause-sound : goal.returns-clause-sound
-returns-clause-sound c = λ xs rest h. (annotation_sound xs tt rest h).is

@@ -1,0 +1,4 @@
+pub mod Input
+pub mod Names
+pub mod Signs
+pub mod Spelled

@@ -1,4 +1,0 @@
-pub mod PrintedNames
-pub mod PrintedFormulas
-pub mod PrintedAxioms
-pub mod PrintedStatements

@@ -1,0 +1,4 @@
+pub mod PrintedAxioms
+pub mod PrintedFormulas
+pub mod PrintedNames
+pub mod PrintedStatements

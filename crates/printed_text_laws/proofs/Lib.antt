@@ -1,0 +1,11 @@
+pub mod Items
+pub mod LexedAs
+pub mod Literals
+pub mod NameRoundTrip
+pub mod PrintedProblem
+pub mod ReadItems
+pub mod ReadStatementItems
+pub mod RoundTrip
+pub mod Spellings
+pub mod TextItems
+pub mod Writes

@@ -1,0 +1,9 @@
+pub mod Declared
+pub mod FileReading
+pub mod NamesOfFile
+pub mod NoFault
+pub mod ProfileLaw
+pub mod RegularNames
+pub mod SameFaults
+pub mod Schemes
+pub mod TypedSignature

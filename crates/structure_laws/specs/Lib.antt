@@ -1,0 +1,3 @@
+pub mod Correspondence
+pub mod KripkeLaws
+pub mod KripkeWrites

@@ -1,0 +1,5 @@
+pub mod Balances
+pub mod Levels
+pub mod LevelsOfTrees
+pub mod Refusals
+pub mod RegularTrees

@@ -1,0 +1,15 @@
+pub mod Annotations
+pub mod Files
+pub mod Formulas
+pub mod Gathered
+pub mod Levels
+pub mod Loading
+pub mod Logic
+pub mod OneAfterAnother
+pub mod Operators
+pub mod Promises
+pub mod Refusals
+pub mod Spells
+pub mod Statements
+pub mod Typings
+pub mod steps

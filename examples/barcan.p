@@ -1,0 +1,2 @@
+include('logic.ax').
+tff(c,conjecture,! [X] : [.] q(X) => [.] ! [X] : q(X)).

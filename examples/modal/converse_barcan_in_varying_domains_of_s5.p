@@ -1,0 +1,4 @@
+% status: CounterSatisfiable
+% In varying domains the converse Barcan formula fails even in S5.
+tff(system,logic,$modal == [$domains == $varying, $modalities == $modal_system_S5]).
+tff(goal,conjecture,[.] ! [X] : q(X) => ! [X] : [.] q(X)).

@@ -1,0 +1,4 @@
+% status: Theorem
+% Where two rigid constants name one thing, they do so necessarily.
+tff(system,logic,$modal == [$modalities == $modal_system_K]).
+tff(goal,conjecture,hesperus = phosphorus => [.] hesperus = phosphorus).

@@ -1,0 +1,4 @@
+% status: Theorem
+% A local constant names something that exists.
+tff(system,logic,$modal == [$domains == $varying, $modalities == $modal_system_K]).
+tff(goal,conjecture,? [X] : X = c).

@@ -1,0 +1,4 @@
+% status: CounterSatisfiable
+% In varying domains what exists need not exist at each seen world.
+tff(system,logic,$modal == [$domains == $varying, $modalities == $modal_system_K]).
+tff(goal,conjecture,! [X] : [.] ? [Y] : X = Y).

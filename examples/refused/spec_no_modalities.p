@@ -1,0 +1,2 @@
+% refused: 12 spec no-modalities
+tff(l,logic,$modal == [$domains == $varying]).

@@ -1,0 +1,2 @@
+% refused: 12 spec none
+tff(c,conjecture,[.] p => p).

@@ -1,0 +1,2 @@
+% refused: 7 too deep refused/too_deep.p
+include('refused/too_deep.p').
