@@ -22,14 +22,13 @@ use Rattle.fin_struct.specs.FirstFault.{meets_condition, meets_term, meets_term_
 use Rattle.structure_laws.proofs.FirstFaultLemmas.{first_failing, first-holds, first-fails, drop-read}
 use Rattle.classical_syntax.proofs.Places.{in_range-below, sort_at-place}
 use Rattle.fin_struct.specs.Places.{InRange}
-use Rattle.fin_struct.specs.Cells.{CellTable, cell, bound_of}
+use Rattle.fin_struct.specs.Cells.{bound_of}
 use Rattle.fin_struct.specs.RowLists.{IsFilled}
 use Rattle.fin_struct.specs.KripkeTables.{KripkeTables, IsKripke, IsKripkeFor, exists_in, value_in, symbol_table, symbol_row, symbol_number, takes_world_in, kripke_structure}
 use Rattle.structure_laws.specs.KripkeLaws.{HasPlaces, ReadsByName}
 use Rattle.structure_laws.proofs.Counted.{all_same, all_pass}
-use Rattle.fin_struct.proofs.KripkeLemmas.{symbol_in}
 use Rattle.structure_laws.proofs.KripkeNames.{places-law}
-use Rattle.fin_struct.proofs.PlacesLemmas.{place_below}
+use Rattle.structure_laws.proofs.RowLaws.{cells-below}
 use Rattle.condition_axioms.specs.steps.Listed.{IsListed}
 use Rattle.condition_axioms.proofs.AddingTerms.{listed-at}
 use Rattle.designation.specs.steps.RowTests.{rows_pass, value_exists_at, values_exist_in, HasFunction}
@@ -94,13 +93,10 @@ row-under false sizes own row n w e below h = subst (λ (xs : List ℕ). InRange
 pub row-in : (view : KripkeTables) (f r w : ℕ) (sorts row : List ℕ) → HasFunction view f sorts r → w < view.worlds → InRange (map (size_at view.sizes) sorts) row → InRange (symbol_table view f).sizes (symbol_row view f w row)
 row-in view f r w sorts row h below = row-under (takes_world_in view f) (map (size_at view.sizes) sorts) (symbol_table view f).sizes row view.worlds w h.rows below
 
-cell-below : (table : CellTable) (row : List ℕ) → IsFilled table → InRange table.sizes row → cell table row < bound_of table.values
-cell-below table row h in_row = h.below _ (omega (arith, place_below table.sizes row in_row, h.count))
-
 value-below : (view : KripkeTables) (f r w : ℕ) (sorts row : List ℕ) → IsKripke view → HasFunction view f sorts r → w < view.worlds → InRange (map (size_at view.sizes) sorts) row → value_in view f w row < size_at view.sizes r
 value-below view f r w sorts row kripke h below in_row =
-    let filled : IsFilled (symbol_table view f) = kripke.filled (symbol_number view f) (symbol_in view f kripke h.symbol) in
-    let small : value_in view f w row < bound_of (symbol_table view f).values = cell-below (symbol_table view f) (symbol_row view f w row) filled (row-in view f r w sorts row h below in_row) in
+    let filled : IsFilled (symbol_table view f) = kripke.filled (symbol_number view f) (omega (arith, kripke.symbols, h.symbol)) in
+    let small : value_in view f w row < bound_of (symbol_table view f).values = cells-below (symbol_table view f) (symbol_row view f w row) filled (row-in view f r w sorts row h below in_row) in
     subst (λ (values : Option ℕ). value_in view f w row < bound_of values) h.values small
 
 sorts-below : (sig : Signature) (ss : List ℕ) (n : ℕ) → n ≡ length sig.sorts → list_all (in_range sig.sorts) ss ≡ true → (k : ℕ) → k < length ss → get_or ss k 0 < n

@@ -15,13 +15,13 @@ use Rattle.nxf_tree.specs.Rows.{Shape, size_at, AreSizes}
 use Rattle.nxf_tree.specs.Structures.{relation_shapes, existence_shapes, symbol_shape, symbol_shapes, table_shape, table_shapes}
 use Rattle.nxf_tree.specs.ClassicalSignature.{classical_signature_of, relation_entries, existence_entries, symbol_entries}
 use Rattle.nxf_tree.specs.WellFormed.{IsWellFormed}
+use Rattle.classical_signature_laws.proofs.ClassicalSorts.{is-classical, has-sorts}
 use Rattle.fin_struct.specs.declared.grid.GridShape.{GridShape}
 use Rattle.fin_struct.specs.Cells.{CellTable, no_table, table_at, grid_shape, blank_tables, total_rows, AllPositive}
 use Rattle.fin_struct.specs.RowLists.{shape_of, shapes_of, blanks, AreFilled}
 use Rattle.fin_struct.specs.Limits.{cells_in, cells_of, IsWithin}
 use Rattle.fin_struct.specs.KripkeTables.{IsKripke, IsKripkeFor, AreNumbered, pairs_shape, numbers_from, kripke_shapes, with_tables, blank_kripke, others_of}
 use Rattle.fin_struct.proofs.StructureLemmas.{Positive, positive-classical, all_positive, total_cells, blanks_made, shapes_blank, blanks_filled}
-use Rattle.fin_struct.proofs.ClassicalSorts.{has-sorts}
 use Rattle.fin_struct.proofs.KripkeTableLemmas.{existence-count}
 
 -- the tables of the classical signature have the shapes of those of the Kripke structure
@@ -75,7 +75,7 @@ sizes-under f (x ∷ xs) [] h = absurd h
 sizes-under f (x ∷ xs) (n ∷ ns) h = (h.0, sizes-under f xs ns h.1)
 
 -- the numbers of the tables of existence
-numbered : (entries : List SortEntry) (from : ℕ) → AreNumbered from (from + length (existence_sorts entries)) (numbers_from from entries)
+pub numbered : (entries : List SortEntry) (from : ℕ) → AreNumbered from (from + length (existence_sorts entries)) (numbers_from from entries)
 numbered [] from = omega arith
 numbered (entry ∷ entries) from = elim (cases_Bool (constant_regime entry.regime)) [
   | inl constant ↦ (rw constant (numbered entries from))
@@ -158,7 +158,7 @@ tables-are-kripke sig n actual ns tables shapes in_worlds within filled =
 -- the structure with nothing written is one
 pub blank-is-kripke : (sig : Signature) (n : ℕ) (ns : List ℕ) → IsWellFormed sig → AreSizes (classical_signature_of sig).sorts (n ∷ ns) → IsWithin n (cells_in (kripke_shapes sig n ns)) → IsKripke (blank_kripke sig n ns)
 blank-is-kripke sig n ns well h within =
-    let positive : Positive (kripke_shapes sig n ns) = rw (classical-shapes sig n ns) at (positive-classical (classical_signature_of sig) (n ∷ ns) (has-sorts sig well) h) in
+    let positive : Positive (kripke_shapes sig n ns) = rw (classical-shapes sig n ns) at (positive-classical (classical_signature_of sig) (n ∷ ns) (has-sorts sig (classical_signature_of sig) (is-classical sig well)) h) in
     let same = shapes_blank (kripke_shapes sig n ns) in
     tables-are-kripke sig n 0 ns (blanks (kripke_shapes sig n ns)) same h.0 (rw same within) (blanks_filled (kripke_shapes sig n ns) positive)
 
@@ -188,7 +188,7 @@ made-kripke sig n ns items indexes existence first columns tables shapes a b c d
 -- what the grid asks of the shapes
 pub shapes-positive : (sig : Signature) (n : ℕ) (ns : List ℕ) (shapes : List GridShape) → map grid_shape shapes ≡ kripke_shapes sig n ns → IsWellFormed sig → AreSizes (classical_signature_of sig).sorts (n ∷ ns) → AllPositive shapes
 shapes-positive sig n ns shapes e well h =
-    all_positive shapes (kripke_shapes sig n ns) e (rw (classical-shapes sig n ns) at (positive-classical (classical_signature_of sig) (n ∷ ns) (has-sorts sig well) h))
+    all_positive shapes (kripke_shapes sig n ns) e (rw (classical-shapes sig n ns) at (positive-classical (classical_signature_of sig) (n ∷ ns) (has-sorts sig (classical_signature_of sig) (is-classical sig well)) h))
 
 pub shapes-small : (sig : Signature) (n : ℕ) (ns : List ℕ) (shapes : List GridShape) → map grid_shape shapes ≡ kripke_shapes sig n ns → IsWithin n (cells_in (kripke_shapes sig n ns)) → total_rows shapes ≤ 4194304
 shapes-small sig n ns shapes e within = omega (arith, total_cells shapes ∙ ap cells_in e, within.few_cells)

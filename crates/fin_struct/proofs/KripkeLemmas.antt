@@ -100,9 +100,11 @@ pub seen_in : (view now : KripkeTables) (t : ℕ) → view ≡ now → t < lengt
 seen_in view now t same below = subst (λ (x : KripkeTables). t < length x.tables) (sym same) below
 
 -- what a read of a sort's number gives
+pub existence_is : (view now : KripkeTables) (s : ℕ) (x : Option ℕ) → view ≡ now → s < length now.existence → x ≡ get_or view.existence s x → x ≡ existence_number now s
+existence_is view now s x same below read = get_or_read now.existence s x below (read ∙ ap (λ (y : KripkeTables). get_or y.existence s x) same) None
+
 pub existence_read : (view now : KripkeTables) (s t : ℕ) (x : Option ℕ) → view ≡ now → s < length now.existence → x ≡ get_or view.existence s x → x ≡ Some t → existence_number now s ≡ Some t
-existence_read view now s t x same below read is =
-    sym (get_or_read now.existence s x below (read ∙ ap (λ (y : KripkeTables). get_or y.existence s x) same) None) ∙ is
+existence_read view now s t x same below read is = sym (existence_is view now s x same below read) ∙ is
 
 -- what a read of a symbol's table is
 pub symbol_read : (view now : KripkeTables) (y t x : ℕ) (row other : List ℕ) → view ≡ now → t ≡ symbol_number now y → row ≡ other → x ≡ cell (table_at view.tables t) row → x ≡ cell (symbol_table now y) other

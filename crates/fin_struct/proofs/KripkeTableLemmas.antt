@@ -1,15 +1,12 @@
 -- The tables of a Kripke structure with given sizes: how many cells they have, and how many tables there are.
-use Rattle.std.proofs.Common.{◌≡◌, ℕ, zero, suc, ◌+◌, ◌*◌, ◌≤◌, List, [], ◌∷◌, ◌++◌, map, length, min, None, inl, inr, refl, ◌∙◌, ap, arith, length-append}
+use Rattle.std.proofs.Common.{◌≡◌, ℕ, zero, suc, ◌+◌, ◌*◌, List, [], ◌∷◌, ◌++◌, length, min, inl, inr, refl, ◌∙◌, ap, arith}
 use Rattle.std.proofs.Math.Nat.{mul_comm}
 use Rattle.std.proofs.lemmas.Bool.{cases_Bool}
-use Rattle.std.proofs.lemmas.List.{length-map}
 use Rattle.nxf_tree.specs.declared.tree.IndexEntry.{IndexEntry}
 use Rattle.nxf_tree.specs.declared.tree.SortEntry.{SortEntry}
 use Rattle.nxf_tree.specs.Rows.{Shape}
 use Rattle.nxf_tree.specs.Signature.{constant_regime, existence_sorts}
 use Rattle.nxf_tree.specs.Structures.{relation_shapes, existence_shapes}
-use Rattle.fin_struct.specs.declared.grid.GridShape.{GridShape}
-use Rattle.fin_struct.specs.Cells.{grid_shape}
 use Rattle.fin_struct.specs.Limits.{cells_in}
 use Rattle.fin_struct.proofs.PlacesLemmas.{capped}
 
@@ -36,22 +33,3 @@ existence-count worlds sizes k (entry ∷ entries) = elim (cases_Bool (constant_
   | inl constant ↦ (rw constant (existence-count worlds sizes (suc k) entries))
   | inr varying ↦ (rw varying (ap suc (existence-count worlds sizes (suc k) entries)))
 ]
-
-pub existence-few : (entries : List SortEntry) → length (existence_sorts entries) ≤ length entries
-existence-few [] = omega arith
-existence-few (entry ∷ entries) = elim (cases_Bool (constant_regime entry.regime)) [
-  | inl constant ↦ (rw constant (omega (arith, existence-few entries)))
-  | inr varying ↦ (rw varying (omega (arith, existence-few entries)))
-]
-
--- how many tables stand before the first symbol's
-pub tables-before : (worlds : ℕ) (sizes : List ℕ) (indexes : List IndexEntry) (sorts : List SortEntry) (none some all : List GridShape) → none ≡ []
-    → map grid_shape some ≡ map grid_shape none ++ relation_shapes worlds indexes
-    → map grid_shape all ≡ map grid_shape some ++ existence_shapes worlds sizes 0 sorts
-    → length all ≡ length indexes + length (existence_sorts sorts)
-tables-before worlds sizes indexes sorts none some all start relations existence =
-    let a : length none ≡ 0 = ap length start in
-    let b : length (relation_shapes worlds indexes) ≡ length indexes = length-map indexes (λ (e : IndexEntry). record { sizes = worlds ∷ worlds ∷ []; values = None }) in
-    let c = ap length relations in
-    let d = ap length existence in
-    omega (arith, a, b, existence-count worlds sizes 0 sorts, c, d, length-append (map grid_shape none) (relation_shapes worlds indexes), length-append (map grid_shape some) (existence_shapes worlds sizes 0 sorts), length-map none grid_shape, length-map some grid_shape, length-map all grid_shape)

@@ -1,10 +1,10 @@
 pub mod BlankKripke
 pub mod CellsLemmas
-pub mod ClassicalSorts
+pub mod CorrespondingLemmas
 pub mod KripkeLemmas
 pub mod KripkeTableLemmas
 pub mod LimitsLemmas
 pub mod PlacesLemmas
 pub mod RowListsLemmas
 pub mod StructureLemmas
-pub mod TableSteps
+pub mod WalkLemmas

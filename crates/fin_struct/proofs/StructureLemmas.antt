@@ -8,12 +8,13 @@ use Rattle.nxf_tree.specs.declared.tree.ClassicalSignature.{ClassicalSignature}
 use Rattle.nxf_tree.specs.declared.tree.TableEntry.{TableEntry}
 use Rattle.nxf_tree.specs.Rows.{Shape, size_at, AreSizes, AreTables}
 use Rattle.nxf_tree.specs.Structures.{table_shapes}
+use Rattle.classical_signature_laws.specs.ClassicalSignatures.{GivesBelow, HasSorts}
 use Rattle.fin_struct.specs.declared.grid.GridShape.{GridShape}
 use Rattle.fin_struct.specs.Places.{rows_count, place, InRange}
 use Rattle.fin_struct.specs.Cells.{CellTable, bound_of, grid_shape, no_table, cell, with_cell, table_at, total_rows, shape_rows, blank_tables, AllPositive}
 use Rattle.fin_struct.specs.RowLists.{entry, listed, shape_of, IsFilled, AreFilled, shapes_of, blank, blanks}
 use Rattle.fin_struct.specs.Limits.{cells_in, cells_of, IsWithin}
-use Rattle.fin_struct.specs.StructureTables.{StructureTables, IsStructure, IsFor, GivesBelow, HasSorts, blank_structure, StructureLaw}
+use Rattle.fin_struct.specs.StructureTables.{StructureTables, IsStructure, IsFor, blank_structure, StructureLaw}
 use Rattle.fin_struct.proofs.RowListsLemmas.{lists-fit, lists-tell}
 
 pub filled_tail : (table : CellTable) (tables : List CellTable) → AreFilled (table ∷ tables) → AreFilled tables

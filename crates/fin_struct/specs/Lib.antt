@@ -1,4 +1,5 @@
 pub mod Cells
+pub mod Corresponding
 pub mod FirstFault
 pub mod KripkeTables
 pub mod Limits

@@ -1,11 +1,7 @@
 -- A finite classical structure, as contracts see it, and the structure of the definitions that it is.
-use Rattle.std.specs.Prelude.{◌≡◌, ℕ, ◌<◌, List, map, length, slice_index_or, Option, None, Some}
-use Rattle.nxf_tree.specs.declared.tree.Signature.{Signature}
+use Rattle.std.specs.Prelude.{◌≡◌, ℕ, ◌<◌, List, map}
 use Rattle.nxf_tree.specs.declared.tree.ClassicalSignature.{ClassicalSignature}
-use Rattle.nxf_tree.specs.declared.tree.TableEntry.{TableEntry}
 use Rattle.nxf_tree.specs.Rows.{size_at, AreSizes}
-use Rattle.nxf_tree.specs.ClassicalSignature.{classical_signature_of}
-use Rattle.nxf_tree.specs.WellFormed.{IsWellFormed}
 use Rattle.nxf_tree.specs.Structures.{ClassicalStructure, IsOverClassical, table_shapes}
 use Rattle.fin_struct.specs.Cells.{CellTable}
 use Rattle.fin_struct.specs.RowLists.{listed, AreFilled, shapes_of, blanks}
@@ -35,20 +31,6 @@ pub record IsFor (csig : ClassicalSignature) (view : StructureTables) : Type 0 w
 -- all cells 0, actual world 0
 abbrev pub blank_structure : ClassicalSignature → List ℕ → StructureTables
 blank_structure csig sizes = record { actual = 0; sizes = sizes; tables = blanks (table_shapes sizes csig.tables) }
-
--- a function's values are of one of the first n sorts
-abbrev pub GivesBelow : ℕ → Option ℕ → Type 0
-GivesBelow n None = Unit {0}
-GivesBelow n (Some sort) = sort < n
-
--- the classical signature has a sort, and the values of each function are of one of its sorts
-pub record HasSorts (csig : ClassicalSignature) : Type 0 where
-  pub some_sort : 0 < length csig.sorts
-  pub values : (t : ℕ) (d : TableEntry) → t < length csig.tables → GivesBelow (length csig.sorts) (slice_index_or csig.tables t d).gives
-
--- the classical signature of a well-formed signature has that
-abbrev pub HasSortsLaw : Type 0
-HasSortsLaw = (sig : Signature) → IsWellFormed sig → HasSorts (classical_signature_of sig)
 
 -- a structure for a classical signature is over it, as the definitions have it
 abbrev pub StructureLaw : Type 0

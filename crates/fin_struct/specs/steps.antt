@@ -1,1 +1,1 @@
-pub mod ExistenceTable
+pub mod Walk

@@ -1,10 +1,13 @@
 //! Tables whose cells stand in one list, one table after the other.
-ghost use Rattle.std.specs.Prelude.{◌≡◌, ◌+◌, ◌<◌, ◌≤◌, List, length, IfOk};
+ghost use Rattle.std.specs.Prelude.{◌≡◌, ◌+◌, ◌<◌, ◌≤◌, List, length, take, drop, IfOk};
 ghost use Rattle.fin_struct.specs.Places.{InRange, place};
 ghost use Rattle.fin_struct.specs.Cells.{with_row, OthersStay, ShapesStay, CellTable, bound_of, table_at, cell, total_rows, blank_tables, sizes_at, start_of, starts_of, AllPositive, SameShapes};
 ghost use Rattle.fin_struct.specs.Places.{row_under};
+ghost use Rattle.nxf_tree.specs.Rows.{all_rows};
 
 use crate::places::{count_rows, place_under};
+use crate::rows::Rows;
+use nxf_base::Memory;
 use std::alloc::{AllocError, Global};
 use std::marker::Model;
 
@@ -59,6 +62,14 @@ fn copy_shapes(alloc: Global, shapes: &[GridShape]) -> Result<Vec<GridShape>, Al
     Ok(copies)
 }
 
+/// That many cells, from the first of a table on.
+fn cells_from(cells: &[u32], first: usize, count: usize) -> &[u32]
+    requires { first + count ≤ length cells.now }
+    ensures { result.now ≡ take count (drop first cells.now) }
+{
+    &cells[first..first + count]
+}
+
 /// Tables, whose cells stand in one list.
 #[derive(Drop)]
 pub struct Grid {
@@ -111,6 +122,24 @@ impl Grid {
             starts,
             cells,
         })
+    }
+
+    /// A walk over the rows of a table.
+    pub fn rows(&self, alloc: Global, table: usize) -> Result<Rows, Memory>
+        requires { table < length self.now }
+        ensures { IfOk result (λ rows. rows ≡ all_rows (table_at self.now table).sizes) }
+    {
+        Rows::new(alloc, &self.shapes[table].sizes)
+    }
+
+    /// The cells of a table, in the order of its rows.
+    pub fn cells(&self, table: usize) -> &[u32]
+        requires { table < length self.now }
+        ensures { result.now ≡ (table_at self.now table).cells }
+    {
+        let first = self.starts[table];
+        let count = count_rows(&self.shapes[table].sizes) as usize;
+        cells_from(&self.cells, first, count)
     }
 
     /// What the table has at the row of the arguments, after the world where there is one.

@@ -1,19 +1,23 @@
 //! Finite Kripke structures.
-ghost use Rattle.std.specs.Prelude.{◌≡◌, ℕ, ◌+◌, ◌<◌, List, [], ◌∷◌, length, None, IsSome, IfOk, IfErr, if◌then◌else◌};
+ghost use Rattle.std.specs.Prelude.{◌≡◌, ℕ, ◌+◌, ◌<◌, List, [], ◌∷◌, length, None, IsSome, IfSome, IfOk, IfErr, if◌then◌else◌};
 ghost use Rattle.nxf_tree.specs.Rows as rows;
 ghost use Rattle.nxf_tree.specs.ClassicalSignature.{classical_signature_of};
+ghost use Rattle.nxf_tree.specs.Structures.{Corresponds};
 ghost use Rattle.nxf_tree.specs.WellFormed.{IsWellFormed};
 ghost use Rattle.fin_struct.specs.Limits.{RefusesShape, cells_in, cells_of, IsWithin};
 ghost use Rattle.fin_struct.specs.Places.{InRange, row_under};
 ghost use Rattle.fin_struct.specs.Cells.{cell, bound_of};
 ghost use Rattle.fin_struct.specs.RowLists.{true_rows, listed, shapes_of, bit_of};
-ghost use Rattle.fin_struct.specs.KripkeTables.{with_written, with_value, WrittenAlone, KripkeTables, IsKripke, IsKripkeFor, kripke_shapes, blank_kripke, others_of, relation_table, related_in, existence_number, existence_place, exists_in, symbol_number, symbol_table, symbol_row, value_in, predicate_in};
+ghost use Rattle.fin_struct.specs.StructureTables.{IsFor, classical_structure};
+ghost use Rattle.fin_struct.specs.Corresponding as meant;
+ghost use Rattle.fin_struct.specs.KripkeTables.{kripke_structure, with_written, with_value, WrittenAlone, KripkeTables, IsKripke, IsKripkeFor, kripke_shapes, blank_kripke, others_of, relation_table, related_in, existence_number, existence_place, exists_in, symbol_number, symbol_table, symbol_row, value_in, predicate_in};
 
 use crate::grid::Grid;
-use crate::kripke_tables::{kripke_cells, lay_out, world_columns};
+use crate::kripke_tables::{kripke_cells, kripke_shapes, number_tables, world_columns};
 use crate::limits::{ShapeError, check_limits, size_at};
 use crate::shapes::copy_sizes;
-use nxf_base::List;
+use crate::structure::Structure;
+use nxf_base::{List, Memory};
 use nxf_tree::Signature;
 use std::alloc::{AllocError, Global};
 use std::marker::Model;
@@ -62,6 +66,50 @@ impl Kripke {
             Ok(made) => Ok(made),
             Err(AllocError) => Err(ShapeError::Memory),
         }
+    }
+
+    /// The Kripke structure over the signature that corresponds to a structure over its classical signature: the elements of
+    /// `mk_world` are the worlds, and each table is copied whole. There is no other error than want of memory.
+    pub fn lifted(alloc: Global, over: &Signature, structure: &Structure) -> Result<Kripke, Memory>
+        requires well_formed { IsWellFormed over.now }
+        requires over { IsFor (classical_signature_of over.now) structure.now }
+        ensures made { IfOk result (λ made. made ≡ meant.lifted over.now structure.now) }
+        ensures over { IfOk result (λ made. IsKripkeFor over.now made) }
+        ensures within { IfOk result (λ made. IsKripke made) }
+        ensures corresponds { IfOk result (λ made. Corresponds (kripke_structure made) (classical_structure structure.now)) }
+        ensures undone { IfOk result (λ made. meant.lowered made ≡ structure.now) }
+    {
+        let worlds = structure.size(0);
+        let actual = structure.actual();
+        let sizes = copy_sizes(alloc, other_sizes(structure.sizes()))?;
+        let indexes = over.indexes.len() as u32;
+        let numbers = number_tables(alloc, indexes, over.sorts.as_slice())?;
+        let world_first = world_columns(alloc, over.symbols.as_slice())?;
+        let grid = structure.tables().copy(alloc)?;
+        Ok(Kripke {
+            worlds,
+            actual,
+            sizes,
+            indexes,
+            existence: numbers.existence,
+            first_symbol: numbers.first_symbol,
+            world_first,
+            grid,
+        })
+    }
+
+    /// The tables in their order: relations, existence, symbols.
+    pub fn tables(&self) -> &Grid
+        ensures { result.now ≡ self.now.tables }
+    {
+        &self.grid
+    }
+
+    /// The size of each sort of the signature.
+    pub fn sizes(&self) -> &[u32]
+        ensures { result.now ≡ self.now.sizes }
+    {
+        &self.sizes
     }
 
     /// The number of worlds.
@@ -159,7 +207,7 @@ impl Kripke {
         ensures below { result < bound_of (symbol_table self.now symbol).values }
     {
         self.grid.get(
-            self.symbol_place(symbol),
+            self.table_of_symbol(symbol),
             self.world_of(symbol, world),
             args,
         )
@@ -177,7 +225,7 @@ impl Kripke {
         ensures alone { WrittenAlone self.old self.new (symbol_number self.old symbol) (symbol_row self.old symbol world args.now) }
         ensures shapes { shapes_of self.new.tables ≡ shapes_of self.old.tables }
     {
-        let table = self.symbol_place(symbol);
+        let table = self.table_of_symbol(symbol);
         let world = self.world_of(symbol, world);
         self.grid.set(table, world, args, element);
     }
@@ -190,7 +238,9 @@ impl Kripke {
         ensures cell { result ≡ predicate_in self.now symbol world args.now }
         ensures listed { result ≡ rows.is_true_row (listed (symbol_table self.now symbol)) (world ∷ args.now) }
     {
-        self.grid.get(self.symbol_place(symbol), Some(world), args) == 1
+        self.grid
+            .get(self.table_of_symbol(symbol), Some(world), args)
+            == 1
     }
 
     /// Writes whether a predicate holds at a world of these arguments, and nothing else.
@@ -203,14 +253,29 @@ impl Kripke {
         ensures alone { WrittenAlone self.old self.new (symbol_number self.old symbol) (world ∷ args.now) }
         ensures shapes { shapes_of self.new.tables ≡ shapes_of self.old.tables }
     {
-        let table = self.symbol_place(symbol);
+        let table = self.table_of_symbol(symbol);
         self.grid.set(table, Some(world), args, bit(yes));
     }
 
-    fn symbol_place(&self, symbol: u32) -> usize
-        ensures { result ≡ symbol_number self.now symbol }
+    /// The number of a symbol's table among all tables.
+    pub fn table_of_symbol(&self, symbol: u32) -> usize
+        requires { symbol < length self.now.world_first }
+        ensures number { result ≡ symbol_number self.now symbol }
+        ensures there { result < length self.now.tables }
     {
         self.first_symbol as usize + symbol as usize
+    }
+
+    /// The number of the table of existence in a sort among all tables. A constant sort has none.
+    pub fn table_of_sort(&self, sort: u32) -> Option<usize>
+        requires { sort < length self.now.existence }
+        ensures number { result ≡ existence_number self.now sort }
+        ensures there { IfSome result (λ table. table < length self.now.tables) }
+    {
+        match self.existence[sort as usize] {
+            Some(table) => Some(table as usize),
+            None => None,
+        }
     }
 
     // The world, where the symbol's rows have one in front.
@@ -258,17 +323,19 @@ fn make(alloc: Global, over: &Signature, worlds: u32, sizes: &[u32]) -> Result<K
     ensures over { IfOk result (λ made. IsKripkeFor over.now made) }
     ensures within { IfOk result (λ made. IsKripke made) }
 {
-    let layout = lay_out(alloc, over, worlds, sizes)?;
+    let indexes = over.indexes.len() as u32;
+    let numbers = number_tables(alloc, indexes, over.sorts.as_slice())?;
     let world_first = world_columns(alloc, over.symbols.as_slice())?;
-    let grid = Grid::new(alloc, layout.shapes)?;
+    let shapes = kripke_shapes(alloc, over, worlds, sizes)?;
+    let grid = Grid::new(alloc, shapes)?;
     let sizes = copy_sizes(alloc, sizes)?;
     Ok(Kripke {
         worlds,
         actual: 0,
         sizes,
-        indexes: over.indexes.len() as u32,
-        existence: layout.existence,
-        first_symbol: layout.first_symbol,
+        indexes,
+        existence: numbers.existence,
+        first_symbol: numbers.first_symbol,
         world_first,
         grid,
     })

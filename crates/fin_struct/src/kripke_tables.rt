@@ -10,10 +10,10 @@ ghost use Rattle.fin_struct.specs.Limits.{cells_in};
 ghost use Rattle.fin_struct.specs.KripkeTables as view;
 ghost use Rattle.fin_struct.specs.KripkeTables.{pairs_shape, numbers_from};
 
-use crate::classical_signature::takes_world;
 use crate::grid::GridShape;
 use crate::limits::{size_at, table_rows};
 use crate::shapes::values_size;
+use classical_signatures::takes_world;
 use classical_syntax::is_constant_regime;
 use nxf_tree::{IndexEntry, Regime, Signature, SortEntry, SymbolEntry};
 use std::alloc::{AllocError, Global};
@@ -84,37 +84,21 @@ fn symbol_rows(symbol: &SymbolEntry, worlds: u32, sizes: &[u32]) -> u64
     }
 }
 
-/// The shapes of the tables in their order, the number of each sort's table of existence, and the number of the first
-/// symbol's table.
-#[derive(Drop)]
-pub struct Layout {
-    pub shapes: Vec<GridShape>,
-    pub existence: Vec<Option<u32>>,
-    pub first_symbol: u32,
-}
-
-/// The layout of the tables of a Kripke structure.
-pub fn lay_out(
+/// The shapes of the tables of a Kripke structure in their order: relations, existence, symbols.
+pub fn kripke_shapes(
     alloc: Global,
     over: &Signature,
     worlds: u32,
     sizes: &[u32],
-) -> Result<Layout, AllocError>
+) -> Result<Vec<GridShape>, AllocError>
     requires { IsWellFormed over.now }
-    ensures shapes { IfOk result (λ made. map grid_shape made.shapes.items ≡ view.kripke_shapes over.now worlds sizes.now) }
-    ensures existence { IfOk result (λ made. made.existence.items ≡ numbers_from (length over.now.indexes) over.now.sorts) }
-    ensures first_symbol { IfOk result (λ made. made.first_symbol ≡ length over.now.indexes + length (meant.existence_sorts over.now.sorts)) }
+    ensures { IfOk result (λ shapes. map grid_shape shapes.items ≡ view.kripke_shapes over.now worlds sizes.now) }
 {
     let mut shapes = Vec::new(alloc);
     add_relations(alloc, worlds, over.indexes.as_slice(), &mut shapes)?;
-    let existence = add_existences(alloc, worlds, sizes, over.sorts.as_slice(), &mut shapes)?;
-    let first_symbol = shapes.len() as u32;
+    add_existences(alloc, worlds, sizes, over.sorts.as_slice(), &mut shapes)?;
     add_symbols(alloc, worlds, sizes, over.symbols.as_slice(), &mut shapes)?;
-    Ok(Layout {
-        shapes,
-        existence,
-        first_symbol,
-    })
+    Ok(shapes)
 }
 
 fn pair_shape(alloc: Global, first: u32, second: u32) -> Result<GridShape, AllocError>
@@ -149,37 +133,32 @@ fn add_existences(
     sizes: &[u32],
     sorts: &[SortEntry],
     shapes: &mut Vec<GridShape>,
-) -> Result<Vec<Option<u32>>, AllocError>
-    requires { length shapes.old.items + length sorts.now ≤ 2 ^ 31 }
-    ensures shapes { OnOk result (map grid_shape shapes.new.items ≡ map grid_shape shapes.old.items ++ structures.existence_shapes worlds sizes.now 0 sorts.now) }
-    ensures numbers { IfOk result (λ numbers. numbers.items ≡ numbers_from (length shapes.old.items) sorts.now) }
+) -> Result<(), AllocError>
+    requires { length sorts.now ≤ 2 ^ 31 }
+    ensures { OnOk result (map grid_shape shapes.new.items ≡ map grid_shape shapes.old.items ++ structures.existence_shapes worlds sizes.now 0 sorts.now) }
 {
-    let mut numbers = Vec::new(alloc);
     for (place, sort) in sorts.iter().enumerate() {
         let size = size_at(sizes, place as u32);
-        numbers.push(add_existence(alloc, sort.regime, worlds, size, shapes)?)?;
+        add_existence(alloc, sort.regime, worlds, size, shapes)?;
     }
-    Ok(numbers)
+    Ok(())
 }
 
-// Adds the table of existence in a sort, and gives its number, unless the sort is constant.
+// Adds the shape of the table of existence in a sort, unless the sort is constant.
 fn add_existence(
     alloc: Global,
     regime: Regime,
     worlds: u32,
     size: u32,
     shapes: &mut Vec<GridShape>,
-) -> Result<Option<u32>, AllocError>
-    requires { length shapes.old.items ≤ 2 ^ 31 }
-    ensures number { IfOk result (λ number. number ≡ (if meant.constant_regime regime then None else Some (length shapes.old.items))) }
-    ensures shapes { OnOk result (map grid_shape shapes.new.items ≡ map grid_shape shapes.old.items ++ (if meant.constant_regime regime then [] else pairs_shape worlds size ∷ [])) }
+) -> Result<(), AllocError>
+    ensures { OnOk result (map grid_shape shapes.new.items ≡ map grid_shape shapes.old.items ++ (if meant.constant_regime regime then [] else pairs_shape worlds size ∷ [])) }
 {
     if is_constant_regime(regime) {
-        return Ok(None);
+        return Ok(());
     }
-    let number = shapes.len() as u32;
     shapes.push(pair_shape(alloc, worlds, size)?)?;
-    Ok(Some(number))
+    Ok(())
 }
 
 fn add_symbols(
@@ -241,4 +220,46 @@ pub fn world_columns(alloc: Global, symbols: &[SymbolEntry]) -> Result<Vec<bool>
         found.push(takes_world(symbol))?;
     }
     Ok(found)
+}
+
+/// The number of each sort's table of existence, and of the first symbol's table.
+#[derive(Drop)]
+pub struct TableNumbers {
+    pub existence: Vec<Option<u32>>,
+    pub first_symbol: u32,
+}
+
+/// Numbers the tables of existence from `first` on; those of the symbols come next.
+pub fn number_tables(
+    alloc: Global,
+    first: u32,
+    sorts: &[SortEntry],
+) -> Result<TableNumbers, AllocError>
+    requires { first + length sorts.now ≤ 2 ^ 31 }
+    ensures existence { IfOk result (λ made. made.existence.items ≡ numbers_from first sorts.now) }
+    ensures first_symbol { IfOk result (λ made. made.first_symbol ≡ first + length (meant.existence_sorts sorts.now)) }
+{
+    let mut existence = Vec::new(alloc);
+    let mut next = first;
+    for sort in sorts {
+        existence.push(take_number(sort.regime, &mut next))?;
+    }
+    Ok(TableNumbers {
+        existence,
+        first_symbol: next,
+    })
+}
+
+// The number of a sort's table of existence, where `next` is that of the next table. A constant sort has none.
+fn take_number(regime: Regime, next: &mut u32) -> Option<u32>
+    requires { next.old ≤ 2 ^ 31 }
+    ensures number { result ≡ (if meant.constant_regime regime then None else Some next.old) }
+    ensures next { next.new ≡ (if meant.constant_regime regime then next.old else next.old + 1) }
+{
+    if is_constant_regime(regime) {
+        return None;
+    }
+    let number = *next;
+    *next += 1;
+    Some(number)
 }

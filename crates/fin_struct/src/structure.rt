@@ -1,16 +1,23 @@
 //! Finite classical structures.
-ghost use Rattle.std.specs.Prelude.{◌≡◌, ◌<◌, List, length, IfOk, IfErr};
+ghost use Rattle.std.specs.Prelude.{◌≡◌, ◌<◌, ◌∷◌, List, length, IfOk, IfErr};
+ghost use Rattle.nxf_tree.specs.declared.tree.Signature.{Signature};
+ghost use Rattle.nxf_tree.specs.ClassicalSignature.{classical_signature_of};
 ghost use Rattle.nxf_tree.specs.Rows as rows;
+ghost use Rattle.nxf_tree.specs.Structures.{Corresponds};
+ghost use Rattle.classical_signature_laws.specs.ClassicalSignatures.{HasSorts};
 ghost use Rattle.fin_struct.specs.Places.{InRange};
 ghost use Rattle.fin_struct.specs.Cells.{with_row, OthersStay, table_at, cell, bound_of};
 ghost use Rattle.fin_struct.specs.RowLists.{entry, listed, shapes_of};
 ghost use Rattle.fin_struct.specs.Limits.{RefusesShape, cells_of, IsWithin};
-ghost use Rattle.fin_struct.specs.StructureTables.{IsStructure, IsFor, HasSorts, blank_structure};
+ghost use Rattle.fin_struct.specs.StructureTables.{IsStructure, IsFor, blank_structure, classical_structure};
+ghost use Rattle.fin_struct.specs.Corresponding as meant;
+ghost use Rattle.fin_struct.specs.KripkeTables.{IsKripkeFor, kripke_structure};
 
 use crate::grid::Grid;
+use crate::kripke::Kripke;
 use crate::limits::{ShapeError, cells, check_limits, size_at};
 use crate::shapes::{copy_sizes, table_shapes};
-use nxf_base::List;
+use nxf_base::{List, Memory};
 use nxf_tree::ClassicalSignature;
 use std::alloc::{AllocError, Global};
 use std::marker::Model;
@@ -55,6 +62,39 @@ impl Structure {
             Ok(made) => Ok(made),
             Err(AllocError) => Err(ShapeError::Memory),
         }
+    }
+
+    /// The structure over the classical signature that corresponds to a Kripke structure: the worlds are the elements of
+    /// `mk_world`, and each table is copied whole. There is no other error than want of memory.
+    pub fn lowered(alloc: Global, kripke: &Kripke) -> Result<Structure, Memory>
+        ensures made { IfOk result (λ made. made ≡ meant.lowered kripke.now) }
+        ensures over { IfOk result (λ made. (sig : Signature) → IsKripkeFor sig kripke.now → IsFor (classical_signature_of sig) made) }
+        ensures within { IfOk result (λ made. IsStructure made) }
+        ensures corresponds { IfOk result (λ made. Corresponds (kripke_structure kripke.now) (classical_structure made)) }
+        ensures undone { IfOk result (λ made. (sig : Signature) → IsKripkeFor sig kripke.now → meant.lifted sig made ≡ kripke.now) }
+    {
+        let actual = kripke.actual();
+        let sizes = sizes_behind(alloc, kripke.worlds(), kripke.sizes())?;
+        let grid = kripke.tables().copy(alloc)?;
+        Ok(Structure {
+            actual,
+            sizes,
+            grid,
+        })
+    }
+
+    /// The tables in the order of the classical signature.
+    pub fn tables(&self) -> &Grid
+        ensures { result.now ≡ self.now.tables }
+    {
+        &self.grid
+    }
+
+    /// The size of each sort of the classical signature.
+    pub fn sizes(&self) -> &[u32]
+        ensures { result.now ≡ self.now.sizes }
+    {
+        &self.sizes
     }
 
     /// The size of a sort of the classical signature, or 0 where there is none with this number.
@@ -122,4 +162,14 @@ fn make(alloc: Global, over: &ClassicalSignature, sizes: &[u32]) -> Result<Struc
         sizes,
         grid,
     })
+}
+
+/// The sizes, behind a first one.
+fn sizes_behind(alloc: Global, first: u32, sizes: &[u32]) -> Result<Vec<u32>, AllocError>
+    ensures { IfOk result (λ all. all.items ≡ first ∷ sizes.now) }
+{
+    let mut all = Vec::with_capacity(alloc, sizes.len().saturating_add(1))?;
+    all.push(first)?;
+    all.extend_from_slice(sizes)?;
+    Ok(all)
 }

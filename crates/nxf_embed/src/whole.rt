@@ -13,7 +13,7 @@ ghost use Rattle.nxf_embed.specs.Kept.{HasOneConjectureAtMost};
 use crate::added::add_axioms;
 use crate::chosen::add_formulas;
 use crate::declare::declarations;
-use fin_struct::classical;
+use classical_signatures::classical;
 use numbered_definitions::Checked;
 use nxf_base::Memory;
 use nxf_roles::Parts;

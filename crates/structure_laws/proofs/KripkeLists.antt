@@ -1,52 +1,23 @@
--- The lists of rows of a Kripke structure are those of its tables, one after the other.
-use Rattle.std.proofs.Common.{◌≡◌, ℕ, zero, suc, ◌+◌, ◌<◌, ◌≤◌, List, [], ◌∷◌, ◌++◌, map, length, take, drop, get_or, Option, None, Some, refl, sym, ◌∙◌, ap, ap₂, arith}
-use Rattle.std.proofs.Math.Seq.{drop-cons}
+-- The lists of rows of a Kripke structure: it is over its signature, and they determine it.
+use Rattle.std.proofs.Common.{◌≡◌, ℕ, zero, suc, ◌+◌, List, [], ◌∷◌, ◌++◌, map, length, take, get_or, Option, None, Some, refl, sym, ◌∙◌, ap, arith}
 use Rattle.std.proofs.lemmas.List.{length-map, length-take-le}
 use Rattle.nxf_tree.specs.declared.tree.IndexEntry.{IndexEntry}
-use Rattle.nxf_tree.specs.Rows.{Table, Rows, Shape, all_rows, AreTables}
+use Rattle.nxf_tree.specs.Rows.{Table, Rows, Shape, AreTables}
 use Rattle.nxf_tree.specs.Structures.{KripkeStructure, relation_shapes, existence_shapes, symbol_shapes, tables_with}
-use Rattle.fin_struct.specs.Cells.{CellTable, no_table, table_at}
-use Rattle.fin_struct.specs.RowLists.{true_rows, rows_of, listed, shapes_of}
-use Rattle.fin_struct.specs.KripkeTables.{KripkeTables, IsKripke, AreNumbered, existing_rows, kripke_shapes, kripke_structure}
+use Rattle.fin_struct.specs.Cells.{CellTable}
+use Rattle.fin_struct.specs.RowLists.{true_rows, listed, shapes_of}
+use Rattle.fin_struct.specs.KripkeTables.{AreNumbered, existing_rows, kripke_shapes, kripke_structure}
 use Rattle.structure_laws.specs.KripkeLaws.{KripkeLaw, KripkesDetermine, OwnTablesLaw}
 use Rattle.fin_struct.proofs.StructureLemmas.{are-tables}
 use Rattle.structure_laws.proofs.EqualStructures.{same_tables}
+use Rattle.fin_struct.proofs.CorrespondingLemmas.{whole-lists}
 use Rattle.fin_struct.proofs.KripkeLemmas.{numbers_end, numbers_in}
 use Rattle.structure_laws.proofs.KripkeNames.{numbers-shapes}
-
--- a predicate's list
-listed-rows : (table : CellTable) → table.values ≡ None → listed table ≡ Rows (true_rows table)
-listed-rows table e = ap (λ (v : Option ℕ). rows_of v (all_rows table.sizes) table.cells) e
-
-front-listed : (tables : List CellTable) (n : ℕ) → ((i : ℕ) → i < n → (table_at tables i).values ≡ None) → n ≤ length tables → map Rows (map true_rows (take n tables)) ++ map listed (drop n tables) ≡ map listed tables
-front-listed [] zero none h = refl
-front-listed [] (suc n) none h = absurd (omega arith)
-front-listed (table ∷ tables) zero none h = refl
-front-listed (table ∷ tables) (suc n) none h =
-    ap₂ ◌∷◌ (sym (listed-rows table (none 0 (omega arith)))) (front-listed tables n (λ i below. none (suc i) (omega arith)) (omega arith))
-
-existing-listed : (tables : List CellTable) (numbers : List (Option ℕ)) (from to : ℕ) → AreNumbered from to numbers → ((s t : ℕ) → get_or numbers s None ≡ Some t → (table_at tables t).values ≡ None) → to ≤ length tables
-    → map Rows (existing_rows tables numbers) ++ map listed (drop to tables) ≡ map listed (drop from tables)
-existing-listed tables [] from to h none whole = ap (λ (n : ℕ). map listed (drop n tables)) (sym h)
-existing-listed tables (None ∷ numbers) from to h none whole = existing-listed tables numbers from to h (λ s t e. none (suc s) t e) whole
-existing-listed tables (Some t ∷ numbers) from to h none whole =
-    let later = existing-listed tables numbers (suc from) to h.1 (λ s u e. none (suc s) u e) whole in
-    let below : from < length tables = omega (arith, numbers_end numbers (suc from) to h.1) in
-    let first : Rows (true_rows (table_at tables t)) ≡ listed (table_at tables from) = sym (listed-rows (table_at tables t) (none 0 t refl)) ∙ ap (λ (n : ℕ). listed (table_at tables n)) h.0 in
-    ap₂ ◌∷◌ first later ∙ ap (map listed) (sym (drop-cons tables from no_table below))
 
 existing-count : (tables : List CellTable) (numbers : List (Option ℕ)) (from to : ℕ) → AreNumbered from to numbers → from + length (existing_rows tables numbers) ≡ to
 existing-count tables [] from to h = omega (arith, h)
 existing-count tables (None ∷ numbers) from to h = existing-count tables numbers from to h
 existing-count tables (Some t ∷ numbers) from to h = omega (arith, existing-count tables numbers (suc from) to h.1)
-
-pub whole-lists : (view : KripkeTables) → IsKripke view → tables_with (kripke_structure view) ≡ map listed view.tables
-whole-lists view is =
-    let ends = numbers_end view.existence view.indexes view.first_symbol is.numbered in
-    let whole : view.first_symbol ≤ length view.tables = omega (arith, is.symbols) in
-    let rest = existing-listed view.tables view.existence view.indexes view.first_symbol is.numbered (λ s t e. ap (λ (x : Shape). x.values) (is.existing s t e)) whole in
-    ap (λ (ts : List Table). map Rows (map true_rows (take view.indexes view.tables)) ++ ts) rest
-    ∙ front-listed view.tables view.indexes (λ i h. ap (λ (x : Shape). x.values) (is.relations i h)) (omega (arith, ends, whole))
 
 -- tables in two parts
 are-split : (xs ys : List Shape) (ts us : List Table) → length ts ≡ length xs → AreTables (xs ++ ys) (ts ++ us) → AreTables xs ts × AreTables ys us

@@ -149,7 +149,7 @@ existing-at tables (first ∷ entries) from (suc s) t entry h e = elim (cases_Bo
 ]
 
 -- the sizes, by number
-size-there : {A : Type 0} (sorts : List A) (sizes : List ℕ) (s : ℕ) (x : A) → AreSizes sorts sizes → slice_get sorts s ≡ Some x → slice_get sizes s ≡ Some (size_at sizes s)
+pub size-there : {A : Type 0} (sorts : List A) (sizes : List ℕ) (s : ℕ) (x : A) → AreSizes sorts sizes → slice_get sorts s ≡ Some x → slice_get sizes s ≡ Some (size_at sizes s)
 size-there [] sizes s x h e = absurd cc
 size-there (y ∷ sorts) [] s x h e = absurd h
 size-there (y ∷ sorts) (size ∷ sizes) zero x h e = refl
@@ -228,7 +228,7 @@ function-front : (gives : Option ℕ) (entry : SymbolEntry) → entry.gives ≡ 
 function-front None entry e some = absurd cc
 function-front (Some n) entry e some = ap (λ (g : Option ℕ). world_in_front g entry.designation) e
 
-some-size : (gives : Option ℕ) (f : ℕ → ℕ) → IsSome gives → IsSome (option_map f gives)
+pub some-size : (gives : Option ℕ) (f : ℕ → ℕ) → IsSome gives → IsSome (option_map f gives)
 some-size None f some = some
 some-size (Some n) f some = refl
 

@@ -1,3 +1,4 @@
+pub mod ClassicalNames
 pub mod CorrespondenceLemmas
 pub mod Counted
 pub mod EqualStructures
@@ -5,3 +6,5 @@ pub mod FirstFaultLemmas
 pub mod KripkeLists
 pub mod KripkeNames
 pub mod KripkeWritesLemmas
+pub mod RowLaws
+pub mod StructureWritesLemmas
