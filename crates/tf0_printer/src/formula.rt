@@ -4,11 +4,11 @@ ghost use Rattle.std.specs.List.{join_by};
 ghost use Rattle.nxf_tree.specs.Text as spec;
 ghost use Rattle.nxf_tree.specs.Text.{formula_text, unit_text, operator_text, quantifier_text, modality_text, name_text, sort_text, term_text};
 
-use crate::name::{put, put_between, write_name, write_sort};
 use crate::term::{write_application, write_term, write_terms};
 use nxf_base::{Memory, Text};
 use nxf_tree::{Formula, IndexName, Mode, Op, Quantifier, SortName, Term};
 use sqlite_items::Boxed;
+use text_writer::{put, put_between, write_name, write_sort, write_variable};
 
 #[cycle(formula)]
 pub fn write_formula(out: &mut Vec<u8>, formula: &Formula) -> Result<(), Memory>
@@ -94,7 +94,7 @@ fn write_binder(
         Quantifier::All => put(out, b"! [")?,
         Quantifier::Exists => put(out, b"? [")?,
     }
-    put(out, variable.bytes())?;
+    write_variable(out, variable)?;
     put(out, b": ")?;
     write_sort(out, sort)?;
     put(out, b"] : ")

@@ -4,13 +4,13 @@ ghost use Rattle.std.specs.List.{join_by, list_all};
 ghost use Rattle.nxf_tree.specs.declared.profile.Profile.{Profile};
 ghost use Rattle.syntax_definitions.specs.Levels.{Fits};
 ghost use Rattle.syntax_definitions.specs.Spells.{Spells};
-ghost use Rattle.nxf_tree.specs.Text.{text_of, is_printable, has_text, body_has_text, suffix_text, statement_text, chosen_text, body_text, role_text, typing_text, type_text, result_text, sort_text, name_text};
+ghost use Rattle.nxf_tree.specs.Text.{text_of, is_printable, has_text, body_has_text, statement_text, chosen_text, body_text, name_text};
 
 use crate::formula::write_formula;
-use crate::name::{put, put_between, write_name, write_sort};
 use nxf_base::{List, Memory, Text};
-use nxf_tree::{Body, File, Role, SortName, Statement, Typing};
+use nxf_tree::{Body, File, Statement};
 use std::alloc::Global;
+use text_writer::{put, put_between, write_front, write_name, write_typing};
 
 /// The text of a file without logic statements: a line for each statement, in the syntax of TPTP's TF0; modalities and includes
 /// have the text that NXF has for them. In a profile without modalities in which the file is regular, and which has the levels
@@ -54,30 +54,6 @@ fn write_statement(out: &mut Vec<u8>, statement: &Statement) -> Result<(), Memor
     }
 }
 
-/// What stands before a statement's body.
-fn write_front(out: &mut Vec<u8>, name: &Text, role: &Role) -> Result<(), Memory>
-    ensures { OnOk result (out.new.items ≡ out.old.items ++ (codes "tff(" ++ name_text name.now ++ codes "," ++ role_text role.now ++ codes ",")) }
-{
-    put(out, b"tff(")?;
-    write_name(out, name)?;
-    put(out, b",")?;
-    put(out, role.word.bytes())?;
-    write_suffix(out, &role.suffix)?;
-    put(out, b",")
-}
-
-fn write_suffix(out: &mut Vec<u8>, suffix: &Option<Text>) -> Result<(), Memory>
-    ensures { OnOk result (out.new.items ≡ out.old.items ++ suffix_text suffix.now) }
-{
-    match suffix {
-        None => Ok(()),
-        Some(suffix) => {
-            put(out, b"-")?;
-            put(out, suffix.bytes())
-        }
-    }
-}
-
 fn write_body(out: &mut Vec<u8>, body: &Body) -> Result<(), Memory>
     requires { IsTrue (body_has_text body.now) }
     ensures { OnOk result (out.new.items ≡ out.old.items ++ body_text body.now) }
@@ -111,59 +87,4 @@ fn write_names(out: &mut Vec<u8>, names: &[Text]) -> Result<(), Memory>
         write_name(out, name)?;
     }
     Ok(())
-}
-
-fn write_typing(out: &mut Vec<u8>, typing: &Typing) -> Result<(), Memory>
-    ensures { OnOk result (out.new.items ≡ out.old.items ++ typing_text typing.now) }
-{
-    match typing {
-        Typing::Individual => put(out, b"$i: $tType"),
-        Typing::Sort(name) => {
-            write_name(out, name)?;
-            put(out, b": $tType")
-        }
-        Typing::Symbol(name, args, gives) => {
-            write_name(out, name)?;
-            put(out, b": ")?;
-            write_type(out, args.as_slice(), gives)
-        }
-    }
-}
-
-/// The sorts of the arguments, in brackets where there are several, and the sort of the values.
-fn write_type(out: &mut Vec<u8>, args: &[SortName], gives: &Option<SortName>) -> Result<(), Memory>
-    ensures { OnOk result (out.new.items ≡ out.old.items ++ type_text args.now gives.now) }
-{
-    match args {
-        [] => {}
-        [sort] => {
-            write_sort(out, sort)?;
-            put(out, b" > ")?;
-        }
-        _ => {
-            put(out, b"( ")?;
-            write_sorts(out, args)?;
-            put(out, b" ) > ")?;
-        }
-    }
-    write_result(out, gives)
-}
-
-fn write_sorts(out: &mut Vec<u8>, sorts: &[SortName]) -> Result<(), Memory>
-    ensures { OnOk result (out.new.items ≡ out.old.items ++ join_by sort_text (codes " * ") sorts.now) }
-{
-    for (at, sort) in sorts.iter().enumerate() {
-        put_between(out, b" * ", at)?;
-        write_sort(out, sort)?;
-    }
-    Ok(())
-}
-
-fn write_result(out: &mut Vec<u8>, gives: &Option<SortName>) -> Result<(), Memory>
-    ensures { OnOk result (out.new.items ≡ out.old.items ++ result_text gives.now) }
-{
-    match gives {
-        None => put(out, b"$o"),
-        Some(sort) => write_sort(out, sort),
-    }
 }

@@ -2,16 +2,16 @@
 ghost use Rattle.std.specs.Prelude.{◌≡◌, ◌++◌, OnOk};
 ghost use Rattle.nxf_tree.specs.Text.{term_text, terms_text, application_text};
 
-use crate::name::{put, put_between, write_name};
 use nxf_base::{Memory, Text};
 use nxf_tree::Term;
+use text_writer::{put, put_between, write_name, write_variable};
 
 #[cycle(term)]
 pub fn write_term(out: &mut Vec<u8>, term: &Term) -> Result<(), Memory>
     ensures { OnOk result (out.new.items ≡ out.old.items ++ term_text term.now) }
 {
     match term {
-        Term::Var(name) => put(out, name.bytes()),
+        Term::Var(name) => write_variable(out, name),
         Term::App(name, terms) => write_application(out, name, terms.as_slice()),
     }
 }

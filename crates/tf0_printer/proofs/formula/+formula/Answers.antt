@@ -11,7 +11,7 @@ pub write_formula-returns-in_ok-put-in-Not : goal.write_formula-returns-in_ok-pu
 write_formula-returns-in_ok-put-in-Not t c =
     let is : formula_text c.args.formula.now ≡ codes "~ " ++ unit_text c.get.result.now =
     ap formula_text (c.in-Not.is ∙ Not_is _) ∙ ap (λ f. codes "~ " ++ unit_text f) (sym c.get.ensures) in
-    rw (ap (λ text. c.args.out.now.items ++ text) is ∙ after_one _ (codes "~ ") (unit_text c.get.result.now) _ c.in_ok-put-in-Not.ensures) c.write_unit.ensures
+    rw (ap (λ text. c.args.out.now.items ++ text) is ∙ after_one _ (codes "~ ") (unit_text c.get.result.now) _ c.in_ok-put-in-Not.ensures.text) c.write_unit.ensures
 
 pub write_formula-returns-in-And : goal.write_formula-returns-in-And
 write_formula-returns-in-And t c =
@@ -32,7 +32,7 @@ write_formula-returns-in_ok-put-in-Pair t c =
     let is : formula_text c.args.formula.now ≡ unit_text left ++ operator_text c.in-Pair.op ++ unit_text right =
     ap formula_text (c.in-Pair.is ∙ Pair_is _ _ _) ∙ sym (λ i. unit_text (c.get-in-Pair.ensures i) ++ operator_text c.in-Pair.op ++ unit_text (c.get-in-Pair-2.ensures i)) in
     let operator : c.put-in-Pair.new.out.items ≡ c.write_unit-in-Pair.new.out.items ++ operator_text c.in-Pair.op =
-    c.in_ok-put-in-Pair.ensures ∙ ap (λ text. c.write_unit-in-Pair.new.out.items ++ text) c.operator.ensures in
+    c.in_ok-put-in-Pair.ensures.text ∙ ap (λ text. c.write_unit-in-Pair.new.out.items ++ text) c.operator.ensures in
     rw (ap (λ text. c.args.out.now.items ++ text) is ∙ after_two _ (unit_text left) (operator_text c.in-Pair.op) (unit_text right) _ _ c.in_ok-write_unit-in-Pair.ensures operator)
     c.write_unit-in-Pair-2.ensures
 
