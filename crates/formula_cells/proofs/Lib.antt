@@ -1,0 +1,5 @@
+pub mod ExpressionLemmas
+pub mod GrowingLemmas
+pub mod PuttingLemmas
+pub mod ReadingLemmas
+pub mod StoredLemmas

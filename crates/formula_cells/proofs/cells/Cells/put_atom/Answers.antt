@@ -1,0 +1,12 @@
+use Rattle.std.proofs.Common.{length, map, ap}
+use Rattle.numbered_definitions.specs.declared.node.Node as node
+use Rattle.formula_cells.specs.Stored.{term_at}
+use Rattle.formula_cells.proofs.PuttingLemmas.{span_behind, arguments_behind, node_is}
+use Rattle.formula_cells.proofs.cells.Cells.put_atom.Goals as goal
+
+pub put_node-requires-clause-good : goal.put_node-requires-clause-good
+put_node-requires-clause-good c = arguments_behind c.args.self.now.kids c.args.args.now c.next_span-span.result c.next_span-span.ensures c.args.self.now.cells (length c.args.self.now.cells) c.requires
+
+pub returns-clause-put : goal.returns-clause-put
+returns-clause-put c =
+    node_is _ _ _ _ (ap (λ l. node.Atom c.args.symbol (map (term_at c.args.self.now) l)) (span_behind c.args.self.now.kids c.args.args.now c.next_span-span.result c.next_span-span.ensures)) c.put_node.result c.put_node.ensures.put
