@@ -14,10 +14,8 @@ use std::alloc::Global;
 fn role(alloc: Global, word: &[u8]) -> Result<Role, Memory>
     ensures { IfOk result (λ made. made ≡ role_named word.now) }
 {
-    match Text::from_bytes(alloc, word) {
-        Ok(word) => Ok(Role { word, suffix: None }),
-        Err(Memory) => Err(Memory),
-    }
+    let word = Text::from_bytes(alloc, word)?;
+    Ok(Role { word, suffix: None })
 }
 
 /// A formula as a statement, under a name and a role.
@@ -30,14 +28,12 @@ pub fn formula_statement(
     ensures { IfOk result (λ statement. statement ≡ spec.statement_of name.now word.now formula) }
 {
     let role = role(alloc, word)?;
-    match Text::from_bytes(alloc, name) {
-        Ok(name) => Ok(Statement::Annotated {
-            name,
-            role,
-            body: Body::Formula(formula),
-        }),
-        Err(Memory) => Err(Memory),
-    }
+    let name = Text::from_bytes(alloc, name)?;
+    Ok(Statement::Annotated {
+        name,
+        role,
+        body: Body::Formula(formula),
+    })
 }
 
 /// A statement that declares something, named by what it declares.
@@ -45,14 +41,12 @@ fn declaration(alloc: Global, name: &Text, typing: Typing) -> Result<Statement, 
     ensures { IfOk result (λ statement. statement ≡ spec.declaration name.now typing) }
 {
     let role = role(alloc, b"type")?;
-    match name.copy(alloc) {
-        Ok(name) => Ok(Statement::Annotated {
-            name,
-            role,
-            body: Body::Typing(typing),
-        }),
-        Err(Memory) => Err(Memory),
-    }
+    let name = name.copy(alloc)?;
+    Ok(Statement::Annotated {
+        name,
+        role,
+        body: Body::Typing(typing),
+    })
 }
 
 /// The declarations of a classical signature in their order: the sorts, of which `$i` needs none, the actual world, the

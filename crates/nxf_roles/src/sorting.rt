@@ -19,6 +19,17 @@ pub enum RoleError {
     Memory,
 }
 
+impl From<Memory> for RoleError {
+    ghost use Rattle.std.specs.Prelude.{◌≡◌};
+    ghost use Rattle.nxf_roles.specs.declared.sorting.RoleError.TheVariants.{Memory};
+
+    ghost from_gives = { λ _ e. e ≡ Memory };
+
+    fn from(_: Memory) -> RoleError {
+        RoleError::Memory
+    }
+}
+
 /// The part of each formula by the roles of TPTP: `axiom` and its kin are premises at every world, `hypothesis`,
 /// `negated_conjecture` and `plain` premises at the actual world, `conjecture` is the conjecture at the actual world, and
 /// the suffixes `-local` and `-global` decide where a formula counts. `type` and `logic` take no suffix. The first statement
@@ -35,10 +46,7 @@ pub fn sort_roles(alloc: Global, file: &File) -> Result<Parts, RoleError>
         match judge(statement, conjectured) {
             Ok(part) => {
                 conjectured |= is_conjecture(part);
-                match add(&mut entries, place, part) {
-                    Ok(()) => {}
-                    Err(Memory) => return Err(RoleError::Memory),
-                }
+                add(&mut entries, place, part)?;
             }
             Err(kind) => return Err(RoleError::Kind(kind, place)),
         }

@@ -8,7 +8,7 @@ ghost use Rattle.nxf_tree.specs.WellFormed.{HasDifferentNames};
 ghost use Rattle.nxf_tree.specs.declared.tree.Formula.{Atom};
 ghost use Rattle.nxf_tree.specs.declared.tree.Term.{Var};
 ghost use Rattle.numbered_definitions.specs.declared.node.Node as spec;
-ghost use Rattle.nxf_translate.specs.steps.Forms.{HasForm, HasForms, HasTerms, IsForm, AreForms, IsEmbedded};
+ghost use Rattle.nxf_translate.specs.steps.Forms.{HasForm, HasForms, HasTerm, HasTerms, IsTerm, IsForm, AreForms, IsEmbedded};
 ghost use Rattle.nxf_translate.specs.steps.Place.{term_of};
 
 use crate::place::{Place, place_term};
@@ -26,173 +26,161 @@ use nxf_tree::{
 use sqlite_items::Boxed;
 use std::alloc::Global;
 
-/// The translation of a formula at a world. `binders` are the variables of the enclosing quantifiers from the outside in,
-/// and stay as they are; `next` is the number of the next variable for a world.
+/// Where a formula is translated: over which signature, at which world, and with which number for the next variable for a
+/// world.
+#[derive(Clone, Copy)]
+struct Here<'a> {
+    signature: &'a Signature,
+    place: Place,
+    next: u64,
+}
+
+/// The translation of a formula. `binders` are the variables of the enclosing quantifiers from the outside in, and stay as
+/// they are.
 #[cycle(translate)]
 fn translate(
     alloc: Global,
-    signature: &Signature,
+    here: Here<'_>,
     binders: &mut Vec<Text>,
-    place: Place,
-    next: u64,
     node: &Node,
 ) -> Result<Formula, Memory>
-    requires different { HasDifferentNames signature.now }
-    requires named { HasForm signature.now binders.old.items node.now }
-    ensures translated { IfOk result (IsForm signature.now binders.old.items (term_of place) next node.now) }
+    requires different { HasDifferentNames here.signature.now }
+    requires named { HasForm here.signature.now binders.old.items node.now }
+    ensures translated { IfOk result (IsForm here.entry.signature.now binders.old.items (term_of here.entry.place) here.entry.next node.now) }
     ensures kept { OnOk result (binders.new.items ≡ binders.old.items) }
 {
     match node {
         Node::True => Ok(Formula::True),
         Node::False => Ok(Formula::False),
-        Node::Atom(number, terms) => atom(
-            alloc,
-            signature,
-            binders.as_slice(),
-            place,
-            *number,
-            terms,
-        ),
-        Node::Same(left, right) => same(alloc, signature, binders.as_slice(), place, left, right),
-        Node::Differ(left, right) => differ(
-            alloc,
-            signature,
-            binders.as_slice(),
-            place,
-            left,
-            right,
-        ),
-        Node::Not(part) => negation(alloc, signature, binders, place, next, part.get()),
-        Node::And(parts) => match translate_all(alloc, signature, binders, place, next, parts) {
-            Ok(parts) => Ok(Formula::And(parts)),
-            Err(Memory) => Err(Memory),
-        },
-        Node::Or(parts) => match translate_all(alloc, signature, binders, place, next, parts) {
-            Ok(parts) => Ok(Formula::Or(parts)),
-            Err(Memory) => Err(Memory),
-        },
-        Node::Pair(op, left, right) => two_sides(
-            alloc,
-            signature,
-            binders,
-            place,
-            next,
-            *op,
-            left.get(),
-            right.get(),
-        ),
+        Node::Atom(number, terms) => atom(alloc, here, binders.as_slice(), *number, terms),
+        Node::Same(left, right) => same(alloc, here, binders.as_slice(), left, right),
+        Node::Differ(left, right) => differ(alloc, here, binders.as_slice(), left, right),
+        Node::Not(part) => negation(alloc, here, binders, part.get()),
+        Node::And(parts) => Ok(Formula::And(translate_all(alloc, here, binders, parts)?)),
+        Node::Or(parts) => Ok(Formula::Or(translate_all(alloc, here, binders, parts)?)),
+        Node::Pair(op, left, right) => {
+            two_sides(alloc, here, binders, *op, left.get(), right.get())
+        }
         Node::Quant(quantifier, sort, variable, body) => quantification(
             alloc,
-            signature,
+            here,
             binders,
-            place,
-            next,
             *quantifier,
             *sort,
             variable,
             body.get(),
         ),
-        Node::Modal(mode, index, body) => modality(
-            alloc,
-            signature,
-            binders,
-            place,
-            next,
-            *mode,
-            *index,
-            body.get(),
-        ),
+        Node::Modal(mode, index, body) => {
+            modality(alloc, here, binders, *mode, *index, body.get())
+        }
     }
 }
 
 fn atom(
     alloc: Global,
-    signature: &Signature,
+    here: Here<'_>,
     binders: &[Text],
-    place: Place,
     number: u32,
     terms: &List<NTerm>,
 ) -> Result<Formula, Memory>
-    requires different { HasDifferentNames signature.now }
-    requires named { HasForm signature.now binders.now (spec.Atom number terms.now) }
-    ensures { IfOk result (λ f. (d : ℕ) → IsForm signature.now binders.now (term_of place) d (spec.Atom number terms.now) f) }
+    requires different { HasDifferentNames here.signature.now }
+    requires named { HasForm here.signature.now binders.now (spec.Atom number terms.now) }
+    ensures { IfOk result (λ f. (d : ℕ) → IsForm here.entry.signature.now binders.now (term_of here.entry.place) d (spec.Atom number terms.now) f) }
 {
-    let symbol = signature.symbols.get(number as usize);
+    let symbol = here.signature.symbols.get(number as usize);
     let name = user_name(alloc, &symbol.name)?;
-    let mut arguments = front(alloc, true, place, terms.len())?;
-    translate_terms(alloc, signature, binders, place, terms, &mut arguments)?;
+    let mut arguments = front(alloc, true, here.place, terms.len())?;
+    translate_terms(
+        alloc,
+        here.signature,
+        binders,
+        here.place,
+        terms,
+        &mut arguments,
+    )?;
     Ok(Formula::Atom(name, arguments))
+}
+
+/// The translations of the two sides of an equation.
+fn sides(
+    alloc: Global,
+    here: Here<'_>,
+    binders: &[Text],
+    left: &Boxed<NTerm>,
+    right: &Boxed<NTerm>,
+) -> Result<(Term, Term), Memory>
+    requires different { HasDifferentNames here.signature.now }
+    requires left { HasTerm here.signature.now binders.now left.now }
+    requires right { HasTerm here.signature.now binders.now right.now }
+    ensures left { IfOk result (λ terms. IsTerm here.entry.signature.now binders.now (term_of here.entry.place) left.now terms.0) }
+    ensures right { IfOk result (λ terms. IsTerm here.entry.signature.now binders.now (term_of here.entry.place) right.now terms.1) }
+{
+    let left = translate_term(alloc, here.signature, binders, here.place, left.get())?;
+    let right = translate_term(alloc, here.signature, binders, here.place, right.get())?;
+    Ok((left, right))
 }
 
 fn same(
     alloc: Global,
-    signature: &Signature,
+    here: Here<'_>,
     binders: &[Text],
-    place: Place,
     left: &Boxed<NTerm>,
     right: &Boxed<NTerm>,
 ) -> Result<Formula, Memory>
-    requires different { HasDifferentNames signature.now }
-    requires named { HasForm signature.now binders.now (spec.Same left.now right.now) }
-    ensures { IfOk result (λ f. (d : ℕ) → IsForm signature.now binders.now (term_of place) d (spec.Same left.now right.now) f) }
+    requires different { HasDifferentNames here.signature.now }
+    requires named { HasForm here.signature.now binders.now (spec.Same left.now right.now) }
+    ensures { IfOk result (λ f. (d : ℕ) → IsForm here.entry.signature.now binders.now (term_of here.entry.place) d (spec.Same left.now right.now) f) }
 {
-    let left = translate_term(alloc, signature, binders, place, left.get())?;
-    let right = translate_term(alloc, signature, binders, place, right.get())?;
+    let (left, right) = sides(alloc, here, binders, left, right)?;
     equation(alloc, left, right)
 }
 
 fn differ(
     alloc: Global,
-    signature: &Signature,
+    here: Here<'_>,
     binders: &[Text],
-    place: Place,
     left: &Boxed<NTerm>,
     right: &Boxed<NTerm>,
 ) -> Result<Formula, Memory>
-    requires different { HasDifferentNames signature.now }
-    requires named { HasForm signature.now binders.now (spec.Differ left.now right.now) }
-    ensures { IfOk result (λ f. (d : ℕ) → IsForm signature.now binders.now (term_of place) d (spec.Differ left.now right.now) f) }
+    requires different { HasDifferentNames here.signature.now }
+    requires named { HasForm here.signature.now binders.now (spec.Differ left.now right.now) }
+    ensures { IfOk result (λ f. (d : ℕ) → IsForm here.entry.signature.now binders.now (term_of here.entry.place) d (spec.Differ left.now right.now) f) }
 {
-    let left = translate_term(alloc, signature, binders, place, left.get())?;
-    let right = translate_term(alloc, signature, binders, place, right.get())?;
+    let (left, right) = sides(alloc, here, binders, left, right)?;
     inequation(alloc, left, right)
 }
 
 #[cycle(translate)]
 fn negation(
     alloc: Global,
-    signature: &Signature,
+    here: Here<'_>,
     binders: &mut Vec<Text>,
-    place: Place,
-    next: u64,
     part: &Node,
 ) -> Result<Formula, Memory>
-    requires different { HasDifferentNames signature.now }
-    requires named { HasForm signature.now binders.old.items (spec.Not part.now) }
-    ensures translated { IfOk result (IsForm signature.now binders.old.items (term_of place) next (spec.Not part.now)) }
+    requires different { HasDifferentNames here.signature.now }
+    requires named { HasForm here.signature.now binders.old.items (spec.Not part.now) }
+    ensures translated { IfOk result (IsForm here.entry.signature.now binders.old.items (term_of here.entry.place) here.entry.next (spec.Not part.now)) }
     ensures kept { OnOk result (binders.new.items ≡ binders.old.items) }
 {
-    let part = translate(alloc, signature, binders, place, next, part)?;
+    let part = translate(alloc, here, binders, part)?;
     negated(alloc, part)
 }
 
 #[cycle(translate)]
 fn translate_all(
     alloc: Global,
-    signature: &Signature,
+    here: Here<'_>,
     binders: &mut Vec<Text>,
-    place: Place,
-    next: u64,
     parts: &List<Node>,
 ) -> Result<List<Formula>, Memory>
-    requires different { HasDifferentNames signature.now }
-    requires named { HasForms signature.now binders.old.items parts.now }
-    ensures translated { IfOk result (AreForms signature.now binders.old.items (term_of place) next parts.now) }
+    requires different { HasDifferentNames here.signature.now }
+    requires named { HasForms here.signature.now binders.old.items parts.now }
+    ensures translated { IfOk result (AreForms here.entry.signature.now binders.old.items (term_of here.entry.place) here.entry.next parts.now) }
     ensures kept { OnOk result (binders.new.items ≡ binders.old.items) }
 {
     let mut made = List::with_capacity(alloc, parts.len())?;
     for part in parts.as_slice() {
-        let translated = translate(alloc, signature, binders, place, next, part)?;
+        let translated = translate(alloc, here, binders, part)?;
         made.push(translated)?;
     }
     Ok(made)
@@ -201,52 +189,42 @@ fn translate_all(
 #[cycle(translate)]
 fn two_sides(
     alloc: Global,
-    signature: &Signature,
+    here: Here<'_>,
     binders: &mut Vec<Text>,
-    place: Place,
-    next: u64,
     op: Op,
     left: &Node,
     right: &Node,
 ) -> Result<Formula, Memory>
-    requires different { HasDifferentNames signature.now }
-    requires named { HasForm signature.now binders.old.items (spec.Pair op left.now right.now) }
-    ensures translated { IfOk result (IsForm signature.now binders.old.items (term_of place) next (spec.Pair op left.now right.now)) }
+    requires different { HasDifferentNames here.signature.now }
+    requires named { HasForm here.signature.now binders.old.items (spec.Pair op left.now right.now) }
+    ensures translated { IfOk result (IsForm here.entry.signature.now binders.old.items (term_of here.entry.place) here.entry.next (spec.Pair op left.now right.now)) }
     ensures kept { OnOk result (binders.new.items ≡ binders.old.items) }
 {
-    let left = translate(alloc, signature, binders, place, next, left)?;
-    let right = translate(alloc, signature, binders, place, next, right)?;
+    let left = translate(alloc, here, binders, left)?;
+    let right = translate(alloc, here, binders, right)?;
     pair(alloc, op, left, right)
 }
 
 #[cycle(translate)]
 fn quantification(
     alloc: Global,
-    signature: &Signature,
+    here: Here<'_>,
     binders: &mut Vec<Text>,
-    place: Place,
-    next: u64,
     quantifier: Quantifier,
     sort: u32,
     variable: &Text,
     body: &Node,
 ) -> Result<Formula, Memory>
-    requires different { HasDifferentNames signature.now }
-    requires named { HasForm signature.now binders.old.items (spec.Quant quantifier sort variable.now body.now) }
-    ensures translated { IfOk result (IsForm signature.now binders.old.items (term_of place) next (spec.Quant quantifier sort variable.now body.now)) }
+    requires different { HasDifferentNames here.signature.now }
+    requires named { HasForm here.signature.now binders.old.items (spec.Quant quantifier sort variable.now body.now) }
+    ensures translated { IfOk result (IsForm here.entry.signature.now binders.old.items (term_of here.entry.place) here.entry.next (spec.Quant quantifier sort variable.now body.now)) }
     ensures kept { OnOk result (binders.new.items ≡ binders.old.items) }
 {
     enter(alloc, binders, variable)?;
-    let body = translate(alloc, signature, binders, place, next, body)?;
+    let body = translate(alloc, here, binders, body)?;
     let _ = binders.pop();
-    quantify(
-        alloc,
-        signature.sorts.get(sort as usize),
-        place,
-        quantifier,
-        variable,
-        body,
-    )
+    let sort = here.signature.sorts.get(sort as usize);
+    quantify(alloc, sort, here.place, quantifier, variable, body)
 }
 
 /// Enters a quantifier: its variable is the last binder.
@@ -312,33 +290,29 @@ fn existence(
 #[cycle(translate)]
 fn modality(
     alloc: Global,
-    signature: &Signature,
+    here: Here<'_>,
     binders: &mut Vec<Text>,
-    place: Place,
-    next: u64,
     mode: Mode,
     index: u32,
     body: &Node,
 ) -> Result<Formula, Memory>
-    requires different { HasDifferentNames signature.now }
-    requires named { HasForm signature.now binders.old.items (spec.Modal mode index body.now) }
-    ensures translated { IfOk result (IsForm signature.now binders.old.items (term_of place) next (spec.Modal mode index body.now)) }
+    requires different { HasDifferentNames here.signature.now }
+    requires named { HasForm here.signature.now binders.old.items (spec.Modal mode index body.now) }
+    ensures translated { IfOk result (IsForm here.entry.signature.now binders.old.items (term_of here.entry.place) here.entry.next (spec.Modal mode index body.now)) }
     ensures kept { OnOk result (binders.new.items ≡ binders.old.items) }
 {
     // no memory holds a formula that is nested as deep as numbers go
-    let Some(deeper) = next.checked_add(1) else {
+    let Some(next) = here.next.checked_add(1) else {
         return Err(Memory);
     };
-    let body = translate(
-        alloc,
-        signature,
-        binders,
-        Place::Reached(next),
-        deeper,
-        body,
-    )?;
-    let name = &signature.indexes.get(index as usize).name;
-    reached(alloc, name, place, next, mode, body)
+    let there = Here {
+        signature: here.signature,
+        place: Place::Reached(here.next),
+        next,
+    };
+    let body = translate(alloc, there, binders, body)?;
+    let name = &here.signature.indexes.get(index as usize).name;
+    reached(alloc, name, here.place, here.next, mode, body)
 }
 
 /// What holds at each world that is reached, or at some of them.
@@ -390,9 +364,21 @@ pub fn translate_closed(
 {
     let mut binders = Vec::new(alloc);
     match scope {
-        Scope::Local => translate(alloc, signature, &mut binders, Place::Actual, 0, node),
+        Scope::Local => {
+            let here = Here {
+                signature,
+                place: Place::Actual,
+                next: 0,
+            };
+            translate(alloc, here, &mut binders, node)
+        }
         Scope::Global => {
-            let body = translate(alloc, signature, &mut binders, Place::Reached(0), 1, node)?;
+            let there = Here {
+                signature,
+                place: Place::Reached(0),
+                next: 1,
+            };
+            let body = translate(alloc, there, &mut binders, node)?;
             let variable = world_variable(alloc, 0)?;
             let sort = world_sort(alloc)?;
             quantified(alloc, Quantifier::All, variable, sort, body)

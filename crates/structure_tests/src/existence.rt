@@ -7,7 +7,7 @@ ghost use Rattle.fin_struct.specs.KripkeTables.{IsKripkeFor, existence_number};
 
 use domains::{axioms, first_fault};
 use fin_struct::{Condition, Kripke};
-use nxf_base::{List, Memory, Text};
+use nxf_base::{List, Memory};
 use nxf_tree::{IndexEntry, IndexName, Regime, Signature, SortEntry, SortName};
 use std::alloc::Global;
 use std::test::Fail;
@@ -116,46 +116,5 @@ fn elements_along_a_step(rt: HostRuntime) -> Result<(), Fail> {
 fn first_of_three_faults(rt: HostRuntime) -> Result<(), Fail> {
     let found = fault_of(rt.alloc(), Regime::Cumulative, &[(0, 0)])?;
     assert_eq!(rt; found, Some(Condition::Empty(0)));
-    Ok(())
-}
-
-// The first fault where the domains of `$i` and of `s` vary, in one world with one element in each sort, which exists as
-// said.
-fn fault_of_two(alloc: Global, first: bool, second: bool) -> Result<Option<Condition>, Fail> {
-    let mut sorts = List::new(alloc);
-    sorts.push(SortEntry {
-        name: SortName::Individual,
-        regime: Regime::Varying,
-    })?;
-    sorts.push(SortEntry {
-        name: SortName::User(Text::from_bytes(alloc, b"s")?),
-        regime: Regime::Varying,
-    })?;
-    let over = Signature {
-        sorts,
-        symbols: List::new(alloc),
-        indexes: List::new(alloc),
-    };
-    let mut sizes = List::new(alloc);
-    sizes.push(1)?;
-    sizes.push(1)?;
-    sizes.push(1)?;
-    let mut kripke = Kripke::new(alloc, &over, &sizes)?;
-    kripke.set_exists(0, 0, 0, first);
-    kripke.set_exists(1, 0, 0, second);
-    Ok(first_fault(&over, &kripke))
-}
-
-#[test]
-fn first_of_two_sorts(rt: HostRuntime) -> Result<(), Fail> {
-    let alloc = rt.alloc();
-    for (first, second, fault) in [
-        (true, true, None),
-        (false, true, Some(Condition::Empty(0))),
-        (true, false, Some(Condition::Empty(1))),
-        (false, false, Some(Condition::Empty(0))),
-    ] {
-        assert_eq!(rt; fault_of_two(alloc, first, second)?, fault);
-    }
     Ok(())
 }

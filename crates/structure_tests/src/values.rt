@@ -127,9 +127,13 @@ fn constant(alloc: Global, name: &[u8], sort: u32) -> Result<SymbolEntry, Memory
     })
 }
 
-// The first fault of local constants `c` of `$i` and `d` of `s`, in one world with one element in each sort, which exists
-// as said.
-fn fault_of_two(alloc: Global, first: bool, second: bool) -> Result<Option<Condition>, Fail> {
+// The first fault of the varying domains of `$i` and `s`, and that of local constants `c` of `$i` and `d` of `s`, in one world
+// with one element in each sort, which exists as said.
+fn faults_of_two(
+    alloc: Global,
+    first: bool,
+    second: bool,
+) -> Result<(Option<Condition>, Option<Condition>), Fail> {
     let mut sorts = List::new(alloc);
     sorts.push(SortEntry {
         name: SortName::Individual,
@@ -154,19 +158,22 @@ fn fault_of_two(alloc: Global, first: bool, second: bool) -> Result<Option<Condi
     let mut kripke = Kripke::new(alloc, &over, &sizes)?;
     kripke.set_exists(0, 0, 0, first);
     kripke.set_exists(1, 0, 0, second);
-    Ok(first_fault(&over, &kripke))
+    let domain = domains::first_fault(&over, &kripke);
+    Ok((domain, first_fault(&over, &kripke)))
 }
 
 #[test]
-fn first_of_two_symbols(rt: HostRuntime) -> Result<(), Fail> {
+fn first_of_two(rt: HostRuntime) -> Result<(), Fail> {
     let alloc = rt.alloc();
-    for (first, second, fault) in [
+    for (first, second, place) in [
         (true, true, None),
-        (false, true, Some(Condition::Local(0))),
-        (true, false, Some(Condition::Local(1))),
-        (false, false, Some(Condition::Local(0))),
+        (false, true, Some(0)),
+        (true, false, Some(1)),
+        (false, false, Some(0)),
     ] {
-        assert_eq!(rt; fault_of_two(alloc, first, second)?, fault);
+        let (domain, term) = faults_of_two(alloc, first, second)?;
+        assert_eq!(rt; domain, place.map(Condition::Empty));
+        assert_eq!(rt; term, place.map(Condition::Local));
     }
     Ok(())
 }

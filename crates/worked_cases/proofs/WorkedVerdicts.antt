@@ -1,10 +1,11 @@
 -- Structures worked out: which are countermodels, and what those that are none fail.
-use Rattle.std.proofs.Common.{◌≡◌, Bool, true, false, List, [], ◌∷◌, refl, arith}
+use Rattle.std.proofs.Common.{◌≡◌, ℕ, Bool, true, false, List, [], ◌∷◌, refl, arith}
 use Rattle.std.specs.Prelude.{codes, map, None, Some, Ok}
 use denote.Hole.Carrier
 use Rattle.nxf_tree.specs.declared.tree.IndexName.TheVariants.{Plain}
 use Rattle.nxf_tree.specs.declared.tree.SortName.TheVariants.{Individual, User}
 use Rattle.nxf_tree.specs.declared.tree.Signature.{Signature}
+use Rattle.nxf_tree.specs.declared.tree.Regime.{Regime}
 use Rattle.nxf_tree.specs.declared.tree.Regime.TheVariants.{Constant, Cumulative, Decreasing, Varying}
 use Rattle.nxf_tree.specs.declared.tree.Designation.TheVariants.{Rigid, Flexible}
 use Rattle.nxf_tree.specs.declared.tree.Locality.TheVariants.{Local, Global}
@@ -23,7 +24,7 @@ use Rattle.nxf_tree.specs.Signature.{is_constant, is_flexible}
 use Rattle.nxf_tree.specs.SpecificationWords.{regime_named, designation_named, locality_named, system_named, axiom_named, same_scheme, scheme_order}
 use Rattle.nxf_tree.specs.Specification.{setting_of, takes_key}
 use Rattle.nxf_tree.specs.Rows.{Rows, Values, all_rows, AreRows, AreValues, AreSizes, IsTable, AreTables}
-use Rattle.nxf_tree.specs.Structures.{KripkeStructure, relation_shapes, IsOver, kripke_model}
+use Rattle.nxf_tree.specs.Structures.{KripkeStructure, ClassicalStructure, relation_shapes, IsOver, kripke_model}
 use Rattle.nxf_tree.specs.declared.tree.Op.{Op}
 use Rattle.nxf_tree.specs.declared.tree.Op.TheVariants.{Implies, ImpliedBy, Iff, Xor, Nor, Nand}
 use Rattle.nxf_tree.specs.Kripke.{connect}
@@ -96,30 +97,52 @@ barcan = implies (for_all (codes "X") Individual (necessarily q_of)) (necessaril
 abbrev converse_barcan : Formula
 converse_barcan = implies (necessarily (for_all (codes "X") Individual q_of)) (for_all (codes "X") Individual (necessarily q_of))
 
-abbrev barcan_file : File
-barcan_file = file_of (logic (setting (codes "$domains") (codes "$cumulative") ∷ modalities (codes "$modal_system_K") ∷ []) ∷ conjecture barcan ∷ [])
+-- a conjecture about q in the system K, over individuals of a regime
+abbrev q_file : List ℕ → Formula → File
+q_file regime formula = file_of (logic (setting (codes "$domains") regime ∷ modalities (codes "$modal_system_K") ∷ []) ∷ conjecture formula ∷ [])
 
-abbrev barcan_signature : Signature
-barcan_signature = record {
-  sorts = sort_entry Individual Cumulative ∷ [];
+abbrev q_signature : Regime → Signature
+q_signature regime = record {
+  sorts = sort_entry Individual regime ∷ [];
   symbols = predicate (codes "q") (0 ∷ []) ∷ [];
   indexes = index_entry Plain [] ∷ [];
 }
+
+-- two worlds, the second reached from the first, and two elements, which exist as told; q holds of the first element at the
+-- second world
+abbrev q_structure : List (List ℕ) → KripkeStructure
+q_structure existing = record {
+  worlds = 2;
+  actual = 0;
+  relations = ((0 ∷ 1 ∷ []) ∷ []) ∷ [];
+  sizes = 2 ∷ [];
+  existing = existing ∷ [];
+  symbols = Rows ((1 ∷ 0 ∷ []) ∷ []) ∷ [];
+}
+
+abbrev q_structure_printed : List (List ℕ) → ClassicalStructure
+q_structure_printed existing = record {
+  actual = 0;
+  sizes = 2 ∷ 2 ∷ [];
+  tables = Rows ((0 ∷ 1 ∷ []) ∷ []) ∷ Rows existing ∷ Rows ((1 ∷ 0 ∷ []) ∷ []) ∷ [];
+}
+
+abbrev barcan_file : File
+barcan_file = q_file (codes "$cumulative") barcan
+
+abbrev barcan_signature : Signature
+barcan_signature = q_signature Cumulative
 
 barcan_reading : signature_in barcan_file ≡ Ok barcan_signature
 unfolding regime_named designation_named locality_named system_named axiom_named same_scheme setting_of takes_key out-SpecValue out-SpecItem roll-SpecValue roll-SpecItem denote.Hole.Carrier.out denote.Hole.Carrier.roll shown-the_row-SpecItem-0 denote.Hole.Carrier.shown denote.Hole.Carrier.hidden is_constant is_flexible hidden-the_row-Term-0
 barcan_reading = refl
 
 -- two worlds, the second reached from the first; one more element exists at the second, of which q does not hold
+abbrev grows : List (List ℕ)
+grows = (0 ∷ 0 ∷ []) ∷ (1 ∷ 0 ∷ []) ∷ (1 ∷ 1 ∷ []) ∷ []
+
 abbrev barcan_structure : KripkeStructure
-barcan_structure = record {
-  worlds = 2;
-  actual = 0;
-  relations = ((0 ∷ 1 ∷ []) ∷ []) ∷ [];
-  sizes = 2 ∷ [];
-  existing = ((0 ∷ 0 ∷ []) ∷ (1 ∷ 0 ∷ []) ∷ (1 ∷ 1 ∷ []) ∷ []) ∷ [];
-  symbols = Rows ((1 ∷ 0 ∷ []) ∷ []) ∷ [];
-}
+barcan_structure = q_structure grows
 
 barcan_fails : IsKripkeCountermodel barcan_signature barcan_file barcan_structure
 unfolding regime_named designation_named locality_named system_named axiom_named same_scheme setting_of takes_key out-SpecValue out-SpecItem roll-SpecValue roll-SpecItem denote.Hole.Carrier.out denote.Hole.Carrier.roll shown-the_row-SpecItem-0 denote.Hole.Carrier.shown denote.Hole.Carrier.hidden is_constant is_flexible hidden-the_row-Term-0
@@ -138,11 +161,7 @@ barcan_fails = record {
 }
 
 -- the same rows under the printed names
-barcan_fails_printed : IsClassicalCountermodel (classical_signature_of barcan_signature) (problem_of barcan_signature barcan_file) (record {
-  actual = 0;
-  sizes = 2 ∷ 2 ∷ [];
-  tables = Rows ((0 ∷ 1 ∷ []) ∷ []) ∷ Rows ((0 ∷ 0 ∷ []) ∷ (1 ∷ 0 ∷ []) ∷ (1 ∷ 1 ∷ []) ∷ []) ∷ Rows ((1 ∷ 0 ∷ []) ∷ []) ∷ [];
-})
+barcan_fails_printed : IsClassicalCountermodel (classical_signature_of barcan_signature) (problem_of barcan_signature barcan_file) (q_structure_printed grows)
 unfolding regime_named designation_named locality_named system_named axiom_named same_scheme setting_of takes_key out-SpecValue out-SpecItem roll-SpecValue roll-SpecItem denote.Hole.Carrier.out denote.Hole.Carrier.roll shown-the_row-SpecItem-0 denote.Hole.Carrier.shown denote.Hole.Carrier.hidden is_constant is_flexible hidden-the_row-Term-0 user_name user_variable world_variable element_variable relation_name existence_name actual_name world_name
 barcan_fails_printed = record {
   over = record { actual = omega arith; sizes = (omega arith, (omega arith, tt)); tables = (refl, (refl, (refl, tt))) };
@@ -150,29 +169,21 @@ barcan_fails_printed = record {
 }
 
 abbrev converse_barcan_file : File
-converse_barcan_file = file_of (logic (setting (codes "$domains") (codes "$decreasing") ∷ modalities (codes "$modal_system_K") ∷ []) ∷ conjecture converse_barcan ∷ [])
+converse_barcan_file = q_file (codes "$decreasing") converse_barcan
 
 abbrev converse_barcan_signature : Signature
-converse_barcan_signature = record {
-  sorts = sort_entry Individual Decreasing ∷ [];
-  symbols = predicate (codes "q") (0 ∷ []) ∷ [];
-  indexes = index_entry Plain [] ∷ [];
-}
+converse_barcan_signature = q_signature Decreasing
 
 converse_barcan_reading : signature_in converse_barcan_file ≡ Ok converse_barcan_signature
 unfolding regime_named designation_named locality_named system_named axiom_named same_scheme setting_of takes_key out-SpecValue out-SpecItem roll-SpecValue roll-SpecItem denote.Hole.Carrier.out denote.Hole.Carrier.roll shown-the_row-SpecItem-0 denote.Hole.Carrier.shown denote.Hole.Carrier.hidden is_constant is_flexible hidden-the_row-Term-0
 converse_barcan_reading = refl
 
 -- the element that ends
+abbrev shrinks : List (List ℕ)
+shrinks = (0 ∷ 0 ∷ []) ∷ (0 ∷ 1 ∷ []) ∷ (1 ∷ 0 ∷ []) ∷ []
+
 abbrev converse_barcan_structure : KripkeStructure
-converse_barcan_structure = record {
-  worlds = 2;
-  actual = 0;
-  relations = ((0 ∷ 1 ∷ []) ∷ []) ∷ [];
-  sizes = 2 ∷ [];
-  existing = ((0 ∷ 0 ∷ []) ∷ (0 ∷ 1 ∷ []) ∷ (1 ∷ 0 ∷ []) ∷ []) ∷ [];
-  symbols = Rows ((1 ∷ 0 ∷ []) ∷ []) ∷ [];
-}
+converse_barcan_structure = q_structure shrinks
 
 converse_barcan_fails : IsKripkeCountermodel converse_barcan_signature converse_barcan_file converse_barcan_structure
 unfolding regime_named designation_named locality_named system_named axiom_named same_scheme setting_of takes_key out-SpecValue out-SpecItem roll-SpecValue roll-SpecItem denote.Hole.Carrier.out denote.Hole.Carrier.roll shown-the_row-SpecItem-0 denote.Hole.Carrier.shown denote.Hole.Carrier.hidden is_constant is_flexible hidden-the_row-Term-0
@@ -191,11 +202,7 @@ converse_barcan_fails = record {
 }
 
 -- the same rows under the printed names
-converse_barcan_fails_printed : IsClassicalCountermodel (classical_signature_of converse_barcan_signature) (problem_of converse_barcan_signature converse_barcan_file) (record {
-  actual = 0;
-  sizes = 2 ∷ 2 ∷ [];
-  tables = Rows ((0 ∷ 1 ∷ []) ∷ []) ∷ Rows ((0 ∷ 0 ∷ []) ∷ (0 ∷ 1 ∷ []) ∷ (1 ∷ 0 ∷ []) ∷ []) ∷ Rows ((1 ∷ 0 ∷ []) ∷ []) ∷ [];
-})
+converse_barcan_fails_printed : IsClassicalCountermodel (classical_signature_of converse_barcan_signature) (problem_of converse_barcan_signature converse_barcan_file) (q_structure_printed shrinks)
 unfolding regime_named designation_named locality_named system_named axiom_named same_scheme setting_of takes_key out-SpecValue out-SpecItem roll-SpecValue roll-SpecItem denote.Hole.Carrier.out denote.Hole.Carrier.roll shown-the_row-SpecItem-0 denote.Hole.Carrier.shown denote.Hole.Carrier.hidden is_constant is_flexible hidden-the_row-Term-0 user_name user_variable world_variable element_variable relation_name existence_name actual_name world_name
 converse_barcan_fails_printed = record {
   over = record { actual = omega arith; sizes = (omega arith, (omega arith, tt)); tables = (refl, (refl, (refl, tt))) };

@@ -8,7 +8,7 @@ use Rattle.nxf_translate.proofs.formulas.+translate.Given as goal
 abbrev pub invariant-translate_all-loop-part : goal.invariant-translate_all-loop-part
 invariant-translate_all-loop-part l = record {
   same : l.binders.items ≡ l.initial.binders.items;
-  so_far : AreForms l.signature l.initial.binders.items (term_of l.place) l.next (take l.part-index l.part-items) l.made;
+  so_far : AreForms l.here.signature.now l.initial.binders.items (term_of l.here.place) l.here.next (take l.part-index l.part-items) l.made;
 }
 
 abbrev pub decreases-translate : goal.decreases-translate
