@@ -1,0 +1,2 @@
+pub mod MarksLexed
+pub mod OneToken

@@ -1,0 +1,3 @@
+pub mod PlainTokens
+pub mod Marks
+pub mod TokenLaws
