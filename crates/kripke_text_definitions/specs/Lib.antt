@@ -1,0 +1,3 @@
+pub mod TokenStatements
+pub mod KripkeText
+pub mod Reading

@@ -1,0 +1,15 @@
+pub mod Splits
+pub mod Stops
+pub mod Whole
+pub mod Apart
+pub mod Heads
+pub mod Fits
+pub mod Tables
+pub mod Equal
+pub mod Complete
+pub mod Faults
+pub mod Refusals
+pub mod Cuts
+pub mod TextLexes
+pub mod WholeText
+pub mod Worked

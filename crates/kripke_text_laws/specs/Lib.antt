@@ -1,0 +1,2 @@
+pub mod KripkeTextLaws
+pub mod steps
