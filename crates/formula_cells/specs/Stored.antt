@@ -33,6 +33,10 @@ node_at s k = node_in (expressions_of s) k
 abbrev pub term_at : Stored → ℕ → NTerm
 term_at s k = term_in (expressions_of s) k
 
+-- the formula of a statement with this number and name, which is the one of a cell
+abbrev pub root_of : ℕ → List ℕ → ℕ → Root
+root_of place label cell = record { place = place; label = label; cell = cell }
+
 -- the formulas of the file
 abbrev pub formula_of : List Expression → Root → Numbered
 formula_of es r = record { place = r.place; name = r.label; node = node_in es r.cell }

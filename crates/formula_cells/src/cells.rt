@@ -6,7 +6,7 @@ ghost use Rattle.std.specs.Vec.{vec_len, vec_capacity};
 ghost use Rattle.std.specs.Cmp.Lexicographic.{pointwise};
 ghost use Rattle.numbered_definitions.specs.NamedForm.{NodeQuant};
 ghost use Rattle.formula_cells.specs.Expressions.{expression, name_in, span_of};
-ghost use Rattle.formula_cells.specs.Stored.{Stored, cell_in, IsCell, expressions_of, expression_at, formulas_in, IsFormula, node_at};
+ghost use Rattle.formula_cells.specs.Stored.{root_of, formula_of, Stored, cell_in, IsCell, expressions_of, expression_at, formulas_in, IsFormula, node_at};
 ghost use Rattle.formula_cells.specs.Putting.{AddsCell, AddsNode, IsNumber};
 
 use crate::cell::{Cell, Span};
@@ -180,8 +180,9 @@ impl Cells {
     /// that stands for it. Where there is no memory for it, all stays as it is.
     pub fn add(&mut self, place: u32, label: Text, cell: usize) -> Result<(), Memory>
         requires { IsFormula self.old cell }
-        ensures added { OnOk result (formulas_in self.new ≡ formulas_in self.old ++ record { place = place; name = label; node = node_at self.old cell } ∷ []) }
-        ensures alone { OnOk result (self.new ≡ record self.old { roots = self.old.roots ++ record { place = place; label = label; cell = cell } ∷ [] }) }
+        ensures added { let root = root_of place label cell in
+            OnOk result (formulas_in self.new ≡ formulas_in self.old ++ formula_of (expressions_of self.old) root ∷ []) }
+        ensures alone { let root = root_of place label cell in OnOk result (self.new ≡ record self.old { roots = self.old.roots ++ root ∷ [] }) }
         ensures unchanged { OnErr result (self.new ≡ self.old) }
     {
         self.roots.push(Root { place, label, cell })?;

@@ -24,43 +24,51 @@ fn names(alloc: Global, gathered: &Result<File, GatherError>) -> Result<Vec<u8>,
     Ok(text)
 }
 
-// Two libraries that both have the file: the first one's decides. The second fails at its third load, and is then dropped.
+// A list of one library of these files, which fails at this load.
+fn roots_of(alloc: Global, files: &[(&str, &str)], fault_at: u64) -> Result<Roots, Fail> {
+    let mut library = library_of(alloc, files)?;
+    library.fail_at(fault_at)?;
+    let mut roots = Roots::new(alloc);
+    let boxed: BoxedLibrary = Box::new(alloc, library)?;
+    if roots.push(boxed).is_err() {
+        return Err(Fail::new("no memory"));
+    }
+    Ok(roots)
+}
+
+// The first library that has a file decides; one that was dropped is asked no more.
 #[test]
 fn libraries_in_order(rt: HostRuntime) -> Result<(), Fail> {
     let alloc = rt.alloc();
-    let mut roots = Roots::new(alloc);
-    assert!(rt; !roots.drop_last());
-    let first: BoxedLibrary = Box::new(alloc, library_of(alloc, &[("-", "include('A').")])?)?;
-    assert!(rt; roots.push(first).is_ok());
-    let mut others = library_of(alloc, &[("-", "tff(x,axiom,p)."), ("A", "tff(y,axiom,p).")])?;
-    others.fail_at(3)?;
-    let second: BoxedLibrary = Box::new(alloc, others)?;
-    assert!(rt; roots.push(second).is_ok());
+    let mut roots = roots_of(alloc, &[("-", "include('A').")], 9)?;
+    let second = library_of(alloc, &[("-", "tff(x,axiom,p)."), ("A", "tff(y,axiom,p).")])?;
+    let boxed: BoxedLibrary = Box::new(alloc, second)?;
+    if roots.push(boxed).is_err() {
+        return Err(Fail::new("no memory"));
+    }
     let name = Text::from_bytes(alloc, b"-")?;
     let both = names(alloc, &gather(alloc, &mut roots, &name))?;
     assert_eq!(rt; both.as_slice(), b"y ".as_slice());
-    let other = Text::from_bytes(alloc, b"A")?;
-    let mut bytes = b"<".to_vec(alloc)?;
-    assert!(rt; matches!(&roots.load(&other, 3, &mut bytes), Ok(Found::Here)));
-    assert_eq!(rt; bytes.as_slice(), b"<tff(".as_slice());
-    assert!(rt;
-        matches!(
-            &load_one(alloc, &mut roots, &other),
-            Err(GatherError::ReadFault)
-        )
-    );
-    assert_eq!(rt; roots.len(), 2);
-    if 1 < roots.len() {
-        assert_eq!(rt; (roots.faults(0), roots.faults(1)), (0, 1));
-        assert_eq!(rt; (roots.misses(0), roots.misses(1)), (3, 0));
-    }
     assert!(rt; roots.drop_last());
-    assert!(rt;
-        matches!(
-            &gather(alloc, &mut roots, &name),
-            Err(GatherError::NoFile(_))
-        )
-    );
+    let missing = gather(alloc, &mut roots, &name);
+    assert!(rt; matches!(&missing, Err(GatherError::NoFile(_))));
+    Ok(())
+}
+
+// One file is loaded within a limit; a load that fails is counted.
+#[test]
+fn single_loads(rt: HostRuntime) -> Result<(), Fail> {
+    let alloc = rt.alloc();
+    let mut roots = roots_of(alloc, &[("A", "tff(y,axiom,p).")], 2)?;
+    let name = Text::from_bytes(alloc, b"A")?;
+    let mut bytes = b"<".to_vec(alloc)?;
+    assert!(rt; matches!(&roots.load(&name, 3, &mut bytes), Ok(Found::Here)));
+    assert_eq!(rt; bytes.as_slice(), b"<tff(".as_slice());
+    let failed = load_one(alloc, &mut roots, &name);
+    assert!(rt; matches!(&failed, Err(GatherError::ReadFault)));
+    if 0 < roots.len() {
+        assert_eq!(rt; (roots.faults(0), roots.misses(0)), (1, 0));
+    }
     Ok(())
 }
 

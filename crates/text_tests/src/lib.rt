@@ -3,15 +3,11 @@
 #![tactic(auto)]
 
 #[cfg(test)]
-mod bases;
-#[cfg(test)]
 mod deceiving;
 #[cfg(test)]
 mod devices;
 #[cfg(test)]
 mod gathering;
-#[cfg(test)]
-mod names;
 #[cfg(test)]
 mod outcome;
 #[cfg(test)]

@@ -1,9 +1,6 @@
 // Trees that are built and copied.
 use nxf_base::{List, Memory, Text};
-use nxf_tree::{
-    File, Formula, IndexEntry, IndexName, Scheme, Signature, Statement, Term, boxed, equation,
-    inequation,
-};
+use nxf_tree::{File, Formula, IndexEntry, IndexName, Scheme, Signature, Statement, Term, boxed};
 use std::alloc::Global;
 use std::test::Fail;
 
@@ -31,48 +28,6 @@ fn formulas(rt: HostRuntime) -> Result<(), Fail> {
     let formula = negation(alloc)?;
     assert_eq!(rt; formula.depth(), 3);
     assert!(rt; negates_p(&formula.copy(alloc)?));
-    Ok(())
-}
-
-fn variable(alloc: Global, name: &[u8]) -> Result<Term, Memory> {
-    Ok(Term::Var(Text::from_bytes(alloc, name)?))
-}
-
-fn is_variable(term: &Term, name: &[u8]) -> bool {
-    match term {
-        Term::Var(text) => text.bytes() == name,
-        Term::App(_, _) => false,
-    }
-}
-
-fn equates_x_and_y(formula: &Formula) -> bool {
-    match formula {
-        Formula::Same(left, right) => {
-            is_variable(left.get(), b"X") && is_variable(right.get(), b"Y")
-        }
-        _ => false,
-    }
-}
-
-fn sets_x_and_y_apart(formula: &Formula) -> bool {
-    match formula {
-        Formula::Differ(left, right) => {
-            is_variable(left.get(), b"X") && is_variable(right.get(), b"Y")
-        }
-        _ => false,
-    }
-}
-
-#[test]
-fn equations(rt: HostRuntime) -> Result<(), Fail> {
-    let alloc = rt.alloc();
-    let left = variable(alloc, b"X")?;
-    let formula = equation(alloc, left, variable(alloc, b"Y")?)?;
-    assert_eq!(rt; formula.depth(), 2);
-    assert!(rt; equates_x_and_y(&formula.copy(alloc)?));
-    let left = variable(alloc, b"X")?;
-    let formula = inequation(alloc, left, variable(alloc, b"Y")?)?;
-    assert!(rt; sets_x_and_y_apart(&formula.copy(alloc)?));
     Ok(())
 }
 
