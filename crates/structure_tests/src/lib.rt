@@ -12,3 +12,5 @@ mod structures;
 mod thousand_worlds;
 #[cfg(test)]
 mod values;
+#[cfg(test)]
+mod views;

@@ -13,7 +13,7 @@ use nxf_tree::{
 use std::alloc::{AllocError, Global};
 use std::test::Fail;
 
-fn numbers(alloc: Global, items: &[u32]) -> Result<List<u32>, Memory>
+pub fn numbers(alloc: Global, items: &[u32]) -> Result<List<u32>, Memory>
     ensures { IfOk result (λ list. list ≡ items.now) }
 {
     let mut list = List::new(alloc);
@@ -108,7 +108,7 @@ fn symbol(
 
 // A signature with `$i`, whose domains vary, and a constant sort; a predicate on both, a rigid function from the one to
 // the other, a flexible constant, and an index.
-fn small(alloc: Global) -> Result<Signature, Memory>
+pub fn small(alloc: Global) -> Result<Signature, Memory>
     ensures { IfOk result (λ made. made ≡ record { sorts = record { name = SortName.Individual; regime = Regime.Varying } ∷ record { name = SortName.User (codes "s"); regime = Regime.Constant } ∷ []; symbols = record { name = codes "p"; args = 0 ∷ 1 ∷ []; gives = None; designation = Designation.Flexible; locality = Locality.Local } ∷ record { name = codes "f"; args = 0 ∷ []; gives = Some 1; designation = Designation.Rigid; locality = Locality.Local } ∷ record { name = codes "c"; args = []; gives = Some 0; designation = Designation.Flexible; locality = Locality.Local } ∷ []; indexes = record { name = IndexName.Plain; schemes = [] } ∷ [] }) }
 {
     let mut sorts = List::new(alloc);

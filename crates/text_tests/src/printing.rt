@@ -2,11 +2,16 @@
 ghost use Rattle.std.specs.Prelude.{◌≡◌, false};
 ghost use Rattle.nxf_tree.specs.Profiles.{has_modalities};
 
-use nxf_base::Text;
+use nxf_base::{List, Text};
 use nxf_grammar::{Profile, read_file};
+use nxf_tree::{Role, SortName, Typing};
 use printed_text_laws::regular_file_is_printed;
 use std::alloc::Global;
 use std::test::Fail;
+use text_writer::{
+    put, put_between, write_front, write_name, write_numeral, write_sort, write_typing,
+    write_variable,
+};
 use tf0_printer::{print_file, print_name};
 use tptp_lex::lex;
 
@@ -69,5 +74,42 @@ fn different_elements_come_back(rt: HostRuntime) -> Result<(), Fail> {
     let text = "tff(e,axiom,$distinct(mk_w_0,mk_w_1) & p).\n";
     let printed = printed_again(rt.alloc(), text.as_bytes(), Profile::Interpretation)?;
     assert_eq!(rt; printed.as_slice(), text.as_bytes());
+    Ok(())
+}
+
+#[test]
+fn parts_of_texts(rt: HostRuntime) -> Result<(), Fail> {
+    let alloc = rt.alloc();
+    let mut out = Vec::new(alloc);
+    let name = Text::from_bytes(alloc, b"mk_e_a b_0")?;
+    let sort = SortName::User(Text::from_bytes(alloc, b"a b")?);
+    let role = Role {
+        word: Text::from_bytes(alloc, b"type")?,
+        suffix: None,
+    };
+    write_front(&mut out, &name, &role)?;
+    write_typing(
+        &mut out,
+        &Typing::Symbol(name, List::new(alloc), Some(sort)),
+    )?;
+    put(&mut out, b").\n")?;
+    let want = b"tff('mk_e_a b_0',type,'mk_e_a b_0': 'a b').\n".as_slice();
+    assert_eq!(rt; out.as_slice(), want);
+    Ok(())
+}
+
+#[test]
+fn numerals_and_variables(rt: HostRuntime) -> Result<(), Fail> {
+    let alloc = rt.alloc();
+    let mut out = Vec::new(alloc);
+    for (at, number) in [0, 10, u64::MAX].into_iter().enumerate() {
+        put_between(&mut out, b" * ", at)?;
+        write_numeral(&mut out, number)?;
+    }
+    write_variable(&mut out, &Text::from_bytes(alloc, b"X")?)?;
+    write_sort(&mut out, &SortName::Individual)?;
+    write_name(&mut out, &Text::from_bytes(alloc, b"it's")?)?;
+    let want = b"0 * 10 * 18446744073709551615X$i'it\\'s'".as_slice();
+    assert_eq!(rt; out.as_slice(), want);
     Ok(())
 }
