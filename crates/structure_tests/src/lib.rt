@@ -3,6 +3,8 @@
 #![tactic(auto)]
 
 #[cfg(test)]
+mod corresponding;
+#[cfg(test)]
 mod existence;
 #[cfg(test)]
 mod relations;
