@@ -8,7 +8,7 @@ use Rattle.nxf_run.specs.Ending.{MayEnd, Reports}
 abbrev pub unwritten : Sight
 unwritten = record { held = None; faults = 0 }
 
--- A run may end so whose libraries are standard input and the working folder, and perhaps one more folder, and whose outputs were not written to.
+-- Some run over two or three libraries, and over two outputs that don't tell what they hold and haven't failed, may end so.
 pub record MayEndOverDevices (s : Status) : Type 0 where
   pub run : Run
   pub libraries : (length run.shelves ≡ 2) ⊎ (length run.shelves ≡ 3)
