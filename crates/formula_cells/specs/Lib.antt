@@ -1,3 +1,5 @@
+pub mod Checked
 pub mod Expressions
 pub mod Putting
+pub mod ReadAs
 pub mod Stored

@@ -4,8 +4,10 @@
 
 mod cell;
 mod cells;
+mod checked;
 mod putting;
 mod root;
 
 pub use cell::{Cell, Span};
 pub use cells::Cells;
+pub use checked::Checked;

@@ -1,3 +1,1 @@
-pub mod Checked
 pub mod NamedForm
-pub mod ReadAs

@@ -1,8 +1,7 @@
-//! Formulas with numbers for names, and files whose sorts were checked.
+//! Formulas with numbers for names, as clauses speak of them. The program keeps such formulas as cells, and makes no value of
+//! these types.
 #![tactic(auto)]
 
-mod checked;
 mod node;
 
-pub use checked::Checked;
 pub use node::{NTerm, Node, Numbered};

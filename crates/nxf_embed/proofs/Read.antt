@@ -1,7 +1,8 @@
 -- The formulas and the parts of a file give the translations of its statements, and its formulas are well sorted.
 use Rattle.std.proofs.Common.{◌≡◌, ℕ, suc, ◌<◌, true, List, [], ◌∷◌, ◌++◌, refl, sym, ap, ◌∙◌, arith}
-use Rattle.std.specs.Prelude.{slice_get, Option, None, Some, Ok}
-use Rattle.std.specs.List.{list_all}
+use Rattle.std.specs.Prelude.{Option, None, Some, Ok}
+use Rattle.std.specs.List.{All, list_all}
+use Rattle.std.proofs.lemmas.List.Elements.{All-head, All-tail}
 use Rattle.nxf_tree.specs.declared.tree.Signature.{Signature}
 use Rattle.nxf_tree.specs.declared.tree.Part.{Part}
 use Rattle.nxf_tree.specs.declared.tree.Part.TheVariants.{Premise, Conjecture}
@@ -61,17 +62,17 @@ pub file-chosen : (sig : Signature) (file : File) (parts : List PartEntry) → p
 file-chosen sig file parts h =
     ap (chosen sig (formulas_of file)) (sym (unless-ok (first_fault role_fault 1 [] file.statements) (part_entries 1 file.statements) parts h)) ∙ statements-chosen sig 1 file.statements
 
-all-sorted : (sig : Signature) (ns : List Numbered) (fs : List FormulaStatement) → all_named sig ns ≡ Some fs → ((k : ℕ) (n : Numbered) → slice_get ns k ≡ Some n → IsSortedFormula sig n.node)
+all-sorted : (sig : Signature) (ns : List Numbered) (fs : List FormulaStatement) → all_named sig ns ≡ Some fs → All (λ (n : Numbered). IsSortedFormula sig n.node) ns
     → list_all (λ (f : FormulaStatement). is_sorted (modal_language sig) [] f.formula) fs ≡ true
 all-sorted sig [] [] h each = refl
 all-sorted sig [] (f ∷ fs) h each = absurd cc
 all-sorted sig (n ∷ ns) fs h each =
     joined (λ f fs. f ∷ fs) (named sig n) (all_named sig ns) fs h (λ g gs e i j.
-    let sorted : IsSortedFormula sig n.node = each 0 n refl in
+    let sorted : IsSortedFormula sig n.node = All-head (λ (n : Numbered). IsSortedFormula sig n.node) n ns each in
     let same : Some sorted.formula ≡ Some g.formula = sym sorted.named ∙ form-is sig n g e in
     let is : sorted.formula ≡ g.formula = cc in
     ap (list_all (λ (f : FormulaStatement). is_sorted (modal_language sig) [] f.formula)) (sym j)
-    ∙ both-true _ _ (ap (is_sorted (modal_language sig) []) (sym is) ∙ sorted.sorted) (all-sorted sig ns gs i (λ k m at. each (suc k) m at)))
+    ∙ both-true _ _ (ap (is_sorted (modal_language sig) []) (sym is) ∙ sorted.sorted) (all-sorted sig ns gs i (All-tail (λ (n : Numbered). IsSortedFormula sig n.node) n ns each)))
 
 statements-sorted : (sig : Signature) (k : ℕ) (ss : List Statement) → list_all (λ (f : FormulaStatement). is_sorted (modal_language sig) [] f.formula) (formulas_from k ss) ≡ true → list_all (statement_is_sorted (modal_language sig)) ss ≡ true
 statements-sorted sig k [] h = refl
@@ -81,5 +82,5 @@ statements-sorted sig k (Annotated name role (IsLogic l) ∷ ss) h = statements-
 statements-sorted sig k (Include file names ∷ ss) h = statements-sorted sig (suc k) ss h
 
 -- a file whose numbered formulas are sorted is well sorted
-pub file-sorted : (sig : Signature) (file : File) (ns : List Numbered) → all_named sig ns ≡ Some (formulas_of file) → ((k : ℕ) (n : Numbered) → slice_get ns k ≡ Some n → IsSortedFormula sig n.node) → IsWellSorted sig file
+pub file-sorted : (sig : Signature) (file : File) (ns : List Numbered) → all_named sig ns ≡ Some (formulas_of file) → All (λ (n : Numbered). IsSortedFormula sig n.node) ns → IsWellSorted sig file
 file-sorted sig file ns h each = statements-sorted sig 1 file.statements (all-sorted sig ns (formulas_of file) h each)

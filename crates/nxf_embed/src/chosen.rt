@@ -3,15 +3,15 @@ ghost use Rattle.std.specs.Prelude.{◌≡◌, ◌≤◌, ◌<◌, ℕ, [], ◌�
 ghost use Rattle.nxf_tree.specs.WellFormed.{HasDifferentNames};
 ghost use Rattle.nxf_tree.specs.declared.tree.Formula.{Formula};
 ghost use Rattle.numbered_definitions.specs.declared.node.Numbered.{Numbered};
-ghost use Rattle.numbered_definitions.specs.NamedForm.{FormulaStatement, IsSortedFormula, named, named_form, all_named};
+ghost use Rattle.numbered_definitions.specs.NamedForm.{FormulaStatement, named, named_form, all_named};
 ghost use Rattle.nxf_embed.specs.steps.Chosen as spec;
 
 use crate::declare::formula_statement;
-use numbered_definitions::{Checked, Numbered};
+use formula_cells::Checked;
 use nxf_base::{List, Memory};
 use nxf_roles::Parts;
 use nxf_translate::translate_closed;
-use nxf_tree::{Part, Signature, Statement};
+use nxf_tree::{Part, Statement};
 use std::alloc::Global;
 
 /// Adds the translation of each formula that has a part, under its own name. Both lists are in the order of the file.
@@ -22,19 +22,11 @@ pub fn add_formulas(
     statements: &mut List<Statement>,
 ) -> Result<(), Memory>
     requires { HasDifferentNames checked.now.signature }
-    ensures added { OnOk result ((fs : List FormulaStatement) → all_named checked.now.signature checked.now.formulas ≡ Some fs → statements.new ≡ statements.old ++ spec.chosen checked.now.signature fs parts.now) }
-    ensures sorted { OnOk result ((k : ℕ) (n : Numbered) → slice_get checked.now.formulas k ≡ Some n → IsSortedFormula checked.now.signature n.node) }
+    ensures { OnOk result ((fs : List FormulaStatement) → all_named checked.now.signature checked.now.formulas ≡ Some fs → statements.new ≡ statements.old ++ spec.chosen checked.now.signature fs parts.now) }
 {
     let mut next = 0;
     for at in 0..checked.len() {
-        next = add_formula(
-            alloc,
-            checked.signature(),
-            checked.get(at),
-            parts,
-            next,
-            statements,
-        )?;
+        next = add_formula(alloc, checked, at, parts, next, statements)?;
     }
     Ok(())
 }
@@ -42,48 +34,54 @@ pub fn add_formulas(
 /// Adds the formula where the next part is its own, and answers with the place of the next part.
 fn add_formula(
     alloc: Global,
-    signature: &Signature,
-    formula: &Numbered,
+    checked: &Checked,
+    at: usize,
     parts: &Parts,
     next: usize,
     statements: &mut List<Statement>,
 ) -> Result<usize, Memory>
-    requires different { HasDifferentNames signature.now }
-    requires sorted { IsSortedFormula signature.now formula.now.node }
+    requires different { HasDifferentNames checked.now.signature }
+    requires formula { at < length checked.now.formulas }
     requires within { next ≤ length parts.now }
     ensures within { IfOk result (λ after. after ≤ length parts.now) }
-    ensures added { IfOk result (λ after. (f : FormulaStatement) → named signature.now formula.now ≡ Some f → (fs : List FormulaStatement) → statements.new ++ spec.chosen signature.now fs (drop after parts.now) ≡ statements.old ++ spec.chosen signature.now (f ∷ fs) (drop next parts.now)) }
+    ensures added { let sig = checked.now.signature in
+        IfOk result (λ after. (n : Numbered) → slice_get checked.now.formulas at ≡ Some n → (f : FormulaStatement) → named sig n ≡ Some f
+        → (fs : List FormulaStatement) → statements.new ++ spec.chosen sig fs (drop after parts.now) ≡ statements.old ++ spec.chosen sig (f ∷ fs) (drop next parts.now)) }
 {
     if next >= parts.len() {
         return Ok(next);
     }
     let entry = parts.get(next);
-    if entry.place != formula.place {
+    if entry.place != checked.place(at) {
         return Ok(next);
     }
-    statements.push(part_statement(alloc, signature, formula, entry.part)?)?;
+    statements.push(part_statement(alloc, checked, at, entry.part)?)?;
     Ok(next + 1)
 }
 
 /// A formula with its part: the conjecture stays one, and a premise becomes an axiom.
 fn part_statement(
     alloc: Global,
-    signature: &Signature,
-    formula: &Numbered,
+    checked: &Checked,
+    at: usize,
     part: Part,
 ) -> Result<Statement, Memory>
-    requires different { HasDifferentNames signature.now }
-    requires sorted { IsSortedFormula signature.now formula.now.node }
-    ensures { IfOk result (λ made. (f : Formula) → named_form signature.now [] formula.now.node ≡ Some f → made ≡ spec.part_statement signature.now formula.now.name f part) }
+    requires different { HasDifferentNames checked.now.signature }
+    requires formula { at < length checked.now.formulas }
+    ensures { let sig = checked.now.signature in
+        IfOk result (λ made. (n : Numbered) → slice_get checked.now.formulas at ≡ Some n → (f : Formula) → named_form sig [] n.node ≡ Some f
+        → made ≡ spec.part_statement sig n.name f part) }
 {
+    let label = checked.label(at).bytes();
+    let root = checked.root(at);
     match part {
         Part::Premise(scope) => {
-            let made = translate_closed(alloc, signature, scope, &formula.node)?;
-            formula_statement(alloc, formula.name.bytes(), b"axiom", made)
+            let made = translate_closed(alloc, checked, scope, root)?;
+            formula_statement(alloc, label, b"axiom", made)
         }
         Part::Conjecture(scope) => {
-            let made = translate_closed(alloc, signature, scope, &formula.node)?;
-            formula_statement(alloc, formula.name.bytes(), b"conjecture", made)
+            let made = translate_closed(alloc, checked, scope, root)?;
+            formula_statement(alloc, label, b"conjecture", made)
         }
     }
 }

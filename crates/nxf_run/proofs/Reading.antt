@@ -26,9 +26,9 @@ use Rattle.syntax_definitions.specs.Spells.{Spells}
 use Rattle.printed_text_laws.proofs.PrintedProblem.{printed_spelled, printed_only}
 use Rattle.syntax_definitions.specs.Promises.{IsFine}
 use Rattle.embedding_laws.specs.Laws.{FileTheorem}
-use Rattle.numbered_definitions.specs.Checked.{CheckedFile}
+use Rattle.formula_cells.specs.Checked.{CheckedFile}
 use Rattle.numbered_definitions.specs.NamedForm.{all_named, formulas_of}
-use Rattle.numbered_definitions.specs.ReadAs.{IsReadAs}
+use Rattle.formula_cells.specs.ReadAs.{IsReadAs}
 use Rattle.nxf_run.specs.Forms.{Form, form_of, file_to_embed, is_later, Embed, Later, NoForm}
 use Rattle.nxf_run.specs.Answer.{IsAnswer, Gathered, IsTranslation, answer_by, embeds}
 use Rattle.nxf_run.specs.steps.Preparing.{FileTranslates, Translates, FileRefuses, NameRefuses, Refuses, IsReading}

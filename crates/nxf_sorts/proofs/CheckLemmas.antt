@@ -19,7 +19,7 @@ use Rattle.nxf_sorts.specs.declared.error.SortError.{SortError}
 use Rattle.nxf_sorts.specs.declared.error.SortError.TheVariants.{Kind, Memory}
 use Rattle.numbered_definitions.specs.declared.node.Numbered.{Numbered}
 use Rattle.numbered_definitions.specs.NamedForm.{both, FormulaStatement, named_form, named, all_named, formulas_from, IsSortedFormula}
-use Rattle.numbered_definitions.specs.Checked.{deepest}
+use Rattle.formula_cells.specs.Checked.{deepest}
 use Rattle.nxf_sorts.specs.Judging.{IsFileFault}
 
 pub list_depth_after : (ss : List Statement) (s : Statement) → statement_list_depth (ss ++ s ∷ []) ≡ max (statement_list_depth ss) (statement_depth s)

@@ -1,5 +1,4 @@
 -- Formulas with numbers: their named forms and faults.
-use denote.Hole.Carrier.{hidden}
 use Rattle.std.proofs.Common.{◌≡◌, ℕ, Bool, true, false, List, [], ◌∷◌, ◌++◌, ◌<◌, length, get_or, Option, None, Some, refl, sym, ap, ◌∙◌, arith}
 use Rattle.std.specs.Prelude.{zero, suc, ◌||◌, map, flat_map, slice_get, if◌then◌else◌, is_some}
 use Rattle.std.specs.Option.{option_map, option_or}
@@ -33,8 +32,8 @@ use Rattle.nxf_sorts.specs.declared.fault.Fault.{Fault}
 use Rattle.numbered_definitions.specs.declared.node.NTerm.{NTerm}
 use Rattle.numbered_definitions.specs.declared.node.Node.{Node, Row_of-Node, end_of-Node, more_of-Node}
 use Rattle.numbered_definitions.specs.declared.node.Node as node
-use Rattle.numbered_definitions.specs.declared.node.Node.TheBlock.{hidden-the_row-Node-0, hidden-the_row-Node-1, items-the_row-Node, items_hidden-the_row-Node-1}
-use Rattle.numbered_definitions.specs.NamedForm.{both, sort_name, index_name, named_form, named_nodes, named_forms}
+use Rattle.numbered_definitions.specs.declared.node.Node.TheBlock.{hidden-the_row-Node-1, items-the_row-Node, items_hidden-the_row-Node-1}
+use Rattle.numbered_definitions.specs.NamedForm.{NodeNot, NodePair, NodeQuant, NodeModal, both, sort_name, index_name, named_form, named_nodes, named_forms}
 use Rattle.nxf_sorts.specs.steps.Scope.{Scope, variables, bound_in}
 use Rattle.nxf_sorts.specs.steps.Numbering.{IsFault, Uses, NumbersTerms, NumbersSides, NumbersFormula, NumbersFormulas, formulas_faults, KnowsIndexes, KnowsAllIndexes, FindsNumber}
 use Rattle.nxf_sorts.proofs.UseLemmas.{fault_first, fault_then, fault_is}
@@ -96,22 +95,6 @@ nodes_named sig xs end_of-Node = refl
 nodes_named sig xs (more_of-Node n ns) = ap (both (λ f fs. f ∷ fs) (named_form sig xs n)) (nodes_named sig xs ns)
 
 module _ (sig : Signature) (xs : List (List ℕ)) where
-  named_Not : (n : Node) → named_form sig xs (node.Not n) ≡ option_map Not (named_form sig xs n)
-  unfolding hidden-the_row-Node-0 hidden
-  named_Not n = refl
-
-  named_Pair : (op : Op) (a b : Node) → named_form sig xs (node.Pair op a b) ≡ both (Pair op) (named_form sig xs a) (named_form sig xs b)
-  unfolding hidden-the_row-Node-0 hidden
-  named_Pair op a b = refl
-
-  named_Quant : (q : Quantifier) (k : ℕ) (x : List ℕ) (n : Node) → named_form sig xs (node.Quant q k x n) ≡ both (Quant q x) (sort_name sig k) (named_form sig (xs ++ x ∷ []) n)
-  unfolding hidden-the_row-Node-0 hidden
-  named_Quant q k x n = refl
-
-  named_Modal : (m : Mode) (k : ℕ) (n : Node) → named_form sig xs (node.Modal m k n) ≡ both (Modal m) (index_name sig k) (named_form sig xs n)
-  unfolding hidden-the_row-Node-0 hidden
-  named_Modal m k n = refl
-
   named_And : (ns : List Node) → named_form sig xs (node.And ns) ≡ option_map And (named_forms sig xs ns)
   named_And ns = ap (option_map And) (nodes_named sig xs (hidden-the_row-Node-1 ns) ∙ ap (named_forms sig xs) (items_hidden-the_row-Node-1 ns))
 
@@ -168,8 +151,8 @@ module _ (sig : Signature) (us : List Use) (bs : Scope) where
   pub fault_Or : (fs : List Formula) → formula_fault L us B (Or fs) ≡ formulas_faults sig us bs fs
   fault_Or fs = rows_faults sig us bs (hidden-the_row-Formula-1 fs) ∙ ap (formulas_faults sig us bs) (items_hidden-the_row-Formula-1 fs)
 
-  pub not_numbered : (f : Formula) (n : Node) → NumbersFormula sig us bs f n → NumbersFormula sig us bs (Not f) (node.Not n)
-  not_numbered f n h = record { no_fault = fault_Not f ∙ h.no_fault; named = λ k. named_Not sig (variables bs) n ∙ ap (option_map Not) (h.named (knows_Not sig f k)) }
+  pub not_numbered : (f : Formula) (n : Node) → NumbersFormula sig us bs f n → NumbersFormula sig us bs (Not f) (NodeNot n)
+  not_numbered f n h = record { no_fault = fault_Not f ∙ h.no_fault; named = λ k. ap (option_map Not) (h.named (knows_Not sig f k)) }
 
   pub and_numbered : (fs : List Formula) (ns : List Node) → NumbersFormulas sig us bs fs ns → NumbersFormula sig us bs (And fs) (node.And ns)
   and_numbered fs ns h = record { no_fault = fault_And fs ∙ h.no_fault; named = λ k. named_And sig (variables bs) ns ∙ ap (option_map And) (h.named (knows_And sig fs k)) }
@@ -177,10 +160,10 @@ module _ (sig : Signature) (us : List Use) (bs : Scope) where
   pub or_numbered : (fs : List Formula) (ns : List Node) → NumbersFormulas sig us bs fs ns → NumbersFormula sig us bs (Or fs) (node.Or ns)
   or_numbered fs ns h = record { no_fault = fault_Or fs ∙ h.no_fault; named = λ k. named_Or sig (variables bs) ns ∙ ap (option_map Or) (h.named (knows_Or sig fs k)) }
 
-  pub pair_numbered : (op : Op) (f g : Formula) (a b : Node) → NumbersFormula sig us bs f a → NumbersFormula sig us bs g b → NumbersFormula sig us bs (Pair2 op f g) (node.Pair op a b)
+  pub pair_numbered : (op : Op) (f g : Formula) (a b : Node) → NumbersFormula sig us bs f a → NumbersFormula sig us bs g b → NumbersFormula sig us bs (Pair2 op f g) (NodePair op a b)
   pair_numbered op f g a b h k = record {
     no_fault = λ i. option_or (h.no_fault i) (k.no_fault i);
-    named = λ all. let parts : KnowsIndexes sig f × KnowsIndexes sig g = knows_parts sig f g all in named_Pair sig (variables bs) op a b ∙ (λ i. both (Pair op) (h.named parts.0 i) (k.named parts.1 i)) ∙ ap Some (Pair_is op f g);
+    named = λ all. let parts : KnowsIndexes sig f × KnowsIndexes sig g = knows_parts sig f g all in (λ i. both (Pair op) (h.named parts.0 i) (k.named parts.1 i)) ∙ ap Some (Pair_is op f g);
   }
 
   pub pair_first : (op : Op) (f g : Formula) (e : Fault) → IsFault (formula_fault L us B f) e → IsFault (formula_fault L us B (Pair2 op f g)) e
@@ -199,16 +182,16 @@ module _ (sig : Signature) (us : List Use) (bs : Scope) where
     pub quantified_refused : (e : Fault) → IsFault (formula_fault L us (bound_in sig ((x, k) ∷ bs)) f) e → IsFault (formula_fault L us B (Quant1 q x s f)) e
     quantified_refused e h = fault_then _ _ e known (fault_is _ _ e (sym under) h)
 
-    pub quantified_numbered : (n : Node) → NumbersFormula sig us ((x, k) ∷ bs) f n → NumbersFormula sig us bs (Quant1 q x s f) (node.Quant q k x n)
+    pub quantified_numbered : (n : Node) → NumbersFormula sig us ((x, k) ∷ bs) f n → NumbersFormula sig us bs (Quant1 q x s f) (NodeQuant q k x n)
     quantified_numbered n h = record {
       no_fault = (λ i. option_or (known i) (formula_fault L us ((x, s) ∷ B) f)) ∙ sym under ∙ h.no_fault;
-      named = λ all. named_Quant sig (variables bs) q k x n ∙ (λ i. both (Quant q x) (found.name i) (h.named all i)) ∙ ap Some (Quant_is q x s f);
+      named = λ all. (λ i. both (Quant q x) (found.name i) (h.named all i)) ∙ ap Some (Quant_is q x s f);
     }
 
-  pub modal_numbered : (m : Mode) (i : IndexName) (f : Formula) (k : ℕ) (n : Node) → (L.knows_index i ≡ true → index_name sig k ≡ Some i) → NumbersFormula sig us bs f n → NumbersFormula sig us bs (Modal1 m i f) (node.Modal m k n)
+  pub modal_numbered : (m : Mode) (i : IndexName) (f : Formula) (k : ℕ) (n : Node) → (L.knows_index i ≡ true → index_name sig k ≡ Some i) → NumbersFormula sig us bs f n → NumbersFormula sig us bs (Modal1 m i f) (NodeModal m k n)
   modal_numbered m i f k n at h = record {
     no_fault = h.no_fault;
-    named = λ all. let parts : (L.knows_index i ≡ true) × KnowsIndexes sig f = and_parts _ _ all in named_Modal sig (variables bs) m k n ∙ (λ j. both (Modal m) (at parts.0 j) (h.named parts.1 j)) ∙ ap Some (Modal_is m i f);
+    named = λ all. let parts : (L.knows_index i ≡ true) × KnowsIndexes sig f = and_parts _ _ all in (λ j. both (Modal m) (at parts.0 j) (h.named parts.1 j)) ∙ ap Some (Modal_is m i f);
   }
 
   pub same_numbered : (t u : Term) (a b : NTerm) → NumbersSides sig us bs t u a b → NumbersFormula sig us bs (Same t u) (node.Same a b)

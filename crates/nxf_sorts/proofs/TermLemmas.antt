@@ -28,7 +28,7 @@ use Rattle.numbered_definitions.specs.declared.node.NTerm.TheBlock.{hidden-the_r
 use Rattle.nxf_sorts.specs.declared.fault.Fault.{Fault}
 use Rattle.numbered_definitions.specs.NamedForm.{both, variable, symbol_name, named_term, named_row, named_terms}
 use Rattle.nxf_sorts.specs.steps.Scope.{Scope, found, variables, bound_in}
-use Rattle.nxf_sorts.specs.steps.Numbering.{IsFault, IsGoodSignature, IsScope, Uses, argument_fault, NumbersTerm, NumbersTerms}
+use Rattle.nxf_sorts.specs.steps.Numbering.{IsFault, IsGoodSignature, IsScope, Uses, argument_fault, NumbersTerm, NumbersArgument, NumbersTerms, NumbersSides}
 use Rattle.nxf_sorts.proofs.UseLemmas.{fault_first, fault_is}
 
 -- sorts with different numbers have different names
@@ -224,6 +224,17 @@ sides_apart sig us bs t u a b j k good left right n =
     (λ i. option_or (left.no_fault i) (option_or (right.no_fault i) (if have_one_sort (left.sort i) (right.sort i) then None else Some (Mismatch, codes "="))))
     ∙ ap (λ c. if c then None else Some (Mismatch, codes "=")) (sorts_apart sig.sorts j k good.different left.range right.range n)
 
+-- two sides of one sort
+pub sides_alike : (sig : Signature) (us : List Use) (bs : Scope) (t u : Term) (a b : NTerm) (j k : ℕ) → NumbersTerm sig us bs t a j → NumbersTerm sig us bs u b k → j ≡ k → NumbersSides sig us bs t u a b
+sides_alike sig us bs t u a b j k left right e = record {
+  no_fault =
+      (λ i. option_or (left.no_fault i) (option_or (right.no_fault i) (if have_one_sort (left.sort i) (right.sort i) then None else Some (Mismatch, codes "="))))
+      ∙ ap (λ l. if same_sort (sort_at sig.sorts l) (sort_at sig.sorts k) then None else Some (Mismatch, codes "=")) e
+      ∙ ap (λ c. if c then None else Some (Mismatch, codes "=")) (same_sort-refl (sort_at sig.sorts k));
+  left = left.named;
+  right = right.named;
+}
+
 -- an argument of a symbol: its fault, another sort than the wanted one, or the wanted one
 or_assoc : {X : Type 0} (a b c : Option X) → option_or a (option_or b c) ≡ option_or (option_or a b) c
 or_assoc None b c = refl
@@ -237,6 +248,15 @@ module _ (sig : Signature) (us : List Use) (bs : Scope) (f : List ℕ) (wanted :
   argument_apart n s good r h k =
       (λ i. option_or (h.no_fault i) (wrong_sort f (sort_at sig.sorts wanted) (h.sort i)))
       ∙ ap (λ b. if b then None else Some (Mismatch, f)) (sorts_apart sig.sorts wanted s good.different r h.range (λ e. k (sym e)))
+
+  pub argument_numbered : (n : NTerm) (s : ℕ) → NumbersTerm sig us bs t n s → s ≡ wanted → NumbersArgument sig us bs f wanted t n
+  argument_numbered n s h e = record {
+    no_fault =
+        (λ i. option_or (h.no_fault i) (wrong_sort f (sort_at sig.sorts wanted) (h.sort i)))
+        ∙ ap (λ k. wrong_sort f (sort_at sig.sorts wanted) (Some (sort_at sig.sorts k))) e
+        ∙ ap (λ b. if b then None else Some (Mismatch, f)) (same_sort-refl (sort_at sig.sorts wanted));
+    named = h.named;
+  }
 
   module _ (rest : List ℕ) (ts : List Term) where
     abbrev remaining : Option SortFault

@@ -1,6 +1,7 @@
 -- The symbols of a signature, as they are used, and their faults.
 use Rattle.std.proofs.Common.{◌≡◌, ℕ, Bool, true, false, List, [], ◌∷◌, length, Option, None, Some, refl, sym, ap, ◌∙◌, subst}
-use Rattle.std.specs.Prelude.{suc, ◌&&◌, nat_eq, map, slice_get, if◌then◌else◌, is_some}
+use Rattle.std.specs.Prelude.{suc, ◌&&◌, nat_eq, map, slice_get, if◌then◌else◌, is_some, Result, Ok, Err, MatchResult}
+use Rattle.std.specs.Result.{IsErrAnd}
 use Rattle.std.specs.Option.{option_map, option_or}
 use Rattle.std.specs.List.{list_all}
 use Rattle.std.proofs.lemmas.Bool.{and_parts, eq-eqb}
@@ -30,6 +31,11 @@ fault_then o p e none h = subst (λ q. IsFault q e) (sym (ap (λ q. option_or q 
 
 pub fault_is : (o p : Option SortFault) (e : Fault) → o ≡ p → IsFault p e → IsFault o e
 fault_is o p e is h = subst (λ q. IsFault q e) (sym is) h
+
+-- a call ends with the fault that the call in it ended with
+pub refused_with : {X : Type 0} (r : Result X Fault) (P : X → Type 0) (o : Option SortFault) (e : Fault) → IsErrAnd r (λ (x : Fault). x ≡ e) → IsFault o e → MatchResult r P (IsFault o)
+refused_with (Ok x) P o e is h = absurd is
+refused_with (Err x) P o e is h = subst (IsFault o) (sym is) h
 
 abbrev pub entry_type : List SortEntry → SymbolEntry → SymbolType
 entry_type sorts e = record { args = map (sort_at sorts) e.args; gives = option_map (sort_at sorts) e.gives }

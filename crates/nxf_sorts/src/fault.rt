@@ -1,7 +1,7 @@
 //! Faults of sorts.
 
 ghost use Rattle.nxf_sorts.specs.steps.Numbering.{IsFault};
-ghost use Rattle.std.specs.Prelude.{Some};
+ghost use Rattle.std.specs.Prelude.{◌≡◌, Some};
 
 use nxf_base::{Memory, SortKind, Text};
 use std::alloc::Global;
@@ -11,6 +11,16 @@ use std::alloc::Global;
 pub enum Fault {
     Kind(SortKind, Text),
     Memory,
+}
+
+impl From<Memory> for Fault {
+    ghost use Rattle.nxf_sorts.specs.declared.fault.Fault.TheVariants as faults;
+
+    ghost from_gives = { λ _ fault. fault ≡ faults.Memory };
+
+    fn from(_: Memory) -> Fault {
+        Fault::Memory
+    }
 }
 
 /// A fault that is about a name.

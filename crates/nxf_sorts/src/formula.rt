@@ -6,17 +6,17 @@ ghost use Rattle.nxf_tree.specs.Sorting.{modal_language};
 ghost use Rattle.nxf_tree.specs.Shapes.{Quant1, Modal1};
 ghost use Rattle.nxf_tree.specs.SortFaults.{formula_fault, sort_text};
 ghost use Rattle.numbered_definitions.specs.NamedForm.{index_name};
+ghost use Rattle.formula_cells.specs.Putting.{Puts, PutsAll};
 ghost use Rattle.nxf_sorts.specs.steps.Scope.{bound_in};
 ghost use Rattle.nxf_sorts.specs.steps.Numbering.{IsFault, IsGoodSignature, IsScope, FindsNumber, NumbersFormula, NumbersFormulas, formulas_faults};
 
 use crate::binders::Binders;
 use crate::fault::{Fault, fault_of};
-use crate::number::{boxed, number_sides, number_terms, put, room, used_predicate};
-use numbered_definitions::Node;
-use nxf_base::{List, Memory, SortKind, Text};
+use crate::number::{number_sides, number_terms, put, room, used_predicate};
+use formula_cells::Cells;
+use nxf_base::{List, SortKind, Text};
 use nxf_signatures::Names;
 use nxf_tree::{Formula, IndexName, Mode, Quantifier, SortName, Term};
-use sqlite_items::Boxed;
 use std::alloc::Global;
 
 /// The fault of a sort that the file has not.
@@ -46,84 +46,95 @@ fn found_index(names: &Names, index: &IndexName) -> u32
     }
 }
 
-/// A predicate with its arguments.
+/// A predicate with its arguments, as cells.
 fn number_atom(
     alloc: Global,
     names: &Names,
     binders: &Binders,
+    cells: &mut Cells,
     name: &Text,
     terms: &List<Term>,
-) -> Result<Node, Fault>
+) -> Result<usize, Fault>
     requires good { IsGoodSignature names.now.signature }
     requires scope { IsScope names.now.signature binders.now }
-    ensures { MatchResult result (λ n. NumbersFormula names.now.signature names.now.declared binders.now (Formula.Atom name.now terms.now) n)
+    ensures { MatchResult result (λ at. Puts (NumbersFormula names.now.signature names.now.declared binders.now (Formula.Atom name.now terms.now)) cells.old cells.new at)
         (λ e. IsFault (formula_fault (modal_language names.now.signature) names.now.declared (bound_in names.now.signature binders.now) (Formula.Atom name.now terms.now)) e) }
 {
-    match used_predicate(alloc, names, name, terms.len()) {
-        Err(error) => Err(error),
-        Ok((number, sorts)) => match number_terms(
-            alloc,
-            names,
-            binders,
-            name,
-            sorts.as_slice(),
-            terms.as_slice(),
-        ) {
-            Err(error) => Err(error),
-            Ok(args) => Ok(Node::Atom(number, args)),
-        },
-    }
+    let (number, sorts) = used_predicate(alloc, names, name, terms.len())?;
+    let args = number_terms(
+        alloc,
+        names,
+        binders,
+        cells,
+        name,
+        sorts.as_slice(),
+        terms.as_slice(),
+    )?;
+    let at = cells.put_atom(number, args.as_slice())?;
+    Ok(at)
 }
 
-/// A formula with numbers for names, or its first fault. Where there is none, the binders are as before.
+/// A formula as cells, with numbers for names; or its first fault. Where there is none, the binders are as before.
 #[cycle(number_formula)]
 pub fn number_formula(
     alloc: Global,
     names: &Names,
     binders: &mut Binders,
+    cells: &mut Cells,
     formula: &Formula,
-) -> Result<Node, Fault>
+) -> Result<usize, Fault>
     requires good { IsGoodSignature names.now.signature }
     requires scope { IsScope names.now.signature binders.old }
-    ensures value { MatchResult result (λ n. NumbersFormula names.now.signature names.now.declared binders.old formula.now n)
+    ensures value { MatchResult result (λ at. Puts (NumbersFormula names.now.signature names.now.declared binders.old formula.now) cells.old cells.new at)
         (λ e. IsFault (formula_fault (modal_language names.now.signature) names.now.declared (bound_in names.now.signature binders.old) formula.now) e) }
     ensures kept { OnOk result (binders.new ≡ binders.old) }
 {
     match formula {
-        Formula::True => Ok(Node::True),
-        Formula::False => Ok(Node::False),
-        Formula::Atom(name, terms) => number_atom(alloc, names, binders, name, terms),
-        Formula::Same(left, right) => match number_sides(alloc, names, binders, left, right) {
-            Ok((a, b)) => Ok(Node::Same(a, b)),
-            Err(error) => Err(error),
-        },
-        Formula::Differ(left, right) => match number_sides(alloc, names, binders, left, right) {
-            Ok((a, b)) => Ok(Node::Differ(a, b)),
-            Err(error) => Err(error),
-        },
-        Formula::Not(part) => match number_boxed(alloc, names, binders, part.get()) {
-            Ok(node) => Ok(Node::Not(node)),
-            Err(error) => Err(error),
-        },
-        Formula::And(parts) => match number_formulas(alloc, names, binders, parts) {
-            Ok(nodes) => Ok(Node::And(nodes)),
-            Err(error) => Err(error),
-        },
-        Formula::Or(parts) => match number_formulas(alloc, names, binders, parts) {
-            Ok(nodes) => Ok(Node::Or(nodes)),
-            Err(error) => Err(error),
-        },
-        Formula::Pair(op, left, right) => match number_boxed(alloc, names, binders, left.get()) {
-            Err(error) => Err(error),
-            Ok(a) => match number_boxed(alloc, names, binders, right.get()) {
-                Ok(b) => Ok(Node::Pair(*op, a, b)),
-                Err(error) => Err(error),
-            },
-        },
+        Formula::True => {
+            let at = cells.put_true()?;
+            Ok(at)
+        }
+        Formula::False => {
+            let at = cells.put_false()?;
+            Ok(at)
+        }
+        Formula::Atom(name, terms) => number_atom(alloc, names, binders, cells, name, terms),
+        Formula::Same(left, right) => {
+            let (a, b) = number_sides(alloc, names, binders, cells, left, right)?;
+            let at = cells.put_same(a, b)?;
+            Ok(at)
+        }
+        Formula::Differ(left, right) => {
+            let (a, b) = number_sides(alloc, names, binders, cells, left, right)?;
+            let at = cells.put_differ(a, b)?;
+            Ok(at)
+        }
+        Formula::Not(part) => {
+            let part = number_formula(alloc, names, binders, cells, part.get())?;
+            let at = cells.put_not(part)?;
+            Ok(at)
+        }
+        Formula::And(parts) => {
+            let parts = number_formulas(alloc, names, binders, cells, parts)?;
+            let at = cells.put_and(parts.as_slice())?;
+            Ok(at)
+        }
+        Formula::Or(parts) => {
+            let parts = number_formulas(alloc, names, binders, cells, parts)?;
+            let at = cells.put_or(parts.as_slice())?;
+            Ok(at)
+        }
+        Formula::Pair(op, left, right) => {
+            let a = number_formula(alloc, names, binders, cells, left.get())?;
+            let b = number_formula(alloc, names, binders, cells, right.get())?;
+            let at = cells.put_pair(*op, a, b)?;
+            Ok(at)
+        }
         Formula::Quant(quantifier, name, sort, body) => number_quantified(
             alloc,
             names,
             binders,
+            cells,
             *quantifier,
             name,
             sort,
@@ -133,6 +144,7 @@ pub fn number_formula(
             alloc,
             names,
             binders,
+            cells,
             *mode,
             index,
             body.get(),
@@ -141,80 +153,54 @@ pub fn number_formula(
     }
 }
 
-/// The same, on the heap.
-#[cycle(number_formula)]
-fn number_boxed(
-    alloc: Global,
-    names: &Names,
-    binders: &mut Binders,
-    formula: &Formula,
-) -> Result<Boxed<Node>, Fault>
-    requires good { IsGoodSignature names.now.signature }
-    requires scope { IsScope names.now.signature binders.old }
-    ensures value { MatchResult result (λ n. NumbersFormula names.now.signature names.now.declared binders.old formula.now n)
-        (λ e. IsFault (formula_fault (modal_language names.now.signature) names.now.declared (bound_in names.now.signature binders.old) formula.now) e) }
-    ensures kept { OnOk result (binders.new ≡ binders.old) }
-{
-    match number_formula(alloc, names, binders, formula) {
-        Ok(node) => boxed(alloc, node),
-        Err(error) => Err(error),
-    }
-}
-
 #[cycle(number_formula)]
 fn number_quantified(
     alloc: Global,
     names: &Names,
     binders: &mut Binders,
+    cells: &mut Cells,
     quantifier: Quantifier,
     name: &Text,
     sort: &SortName,
     body: &Formula,
-) -> Result<Node, Fault>
+) -> Result<usize, Fault>
     requires good { IsGoodSignature names.now.signature }
     requires scope { IsScope names.now.signature binders.old }
-    ensures value { MatchResult result (λ n. NumbersFormula names.now.signature names.now.declared binders.old (Quant1 quantifier name.now sort.now body.now) n)
+    ensures value { MatchResult result (λ at. Puts (NumbersFormula names.now.signature names.now.declared binders.old (Quant1 quantifier name.now sort.now body.now)) cells.old cells.new at)
         (λ e. IsFault (formula_fault (modal_language names.now.signature) names.now.declared (bound_in names.now.signature binders.old) (Quant1 quantifier name.now sort.now body.now)) e) }
     ensures kept { OnOk result (binders.new ≡ binders.old) }
 {
     match found_sort(names, sort) {
         None => Err(unknown_sort(alloc, sort)),
-        Some(number) => match number_under(alloc, names, binders, name, number, body) {
-            Err(error) => Err(error),
-            Ok(node) => match name.copy(alloc) {
-                Err(Memory) => Err(Fault::Memory),
-                Ok(name) => Ok(Node::Quant(quantifier, number, name, node)),
-            },
-        },
+        Some(number) => {
+            let part = number_under(alloc, names, binders, cells, name, number, body)?;
+            let at = cells.put_quant(alloc, quantifier, number, name, part)?;
+            Ok(at)
+        }
     }
 }
 
-/// A formula under one more binder, on the heap.
+/// A formula under one more binder.
 #[cycle(number_formula)]
 fn number_under(
     alloc: Global,
     names: &Names,
     binders: &mut Binders,
+    cells: &mut Cells,
     name: &Text,
     sort: u32,
     body: &Formula,
-) -> Result<Boxed<Node>, Fault>
+) -> Result<usize, Fault>
     requires good { IsGoodSignature names.now.signature }
     requires scope { IsScope names.now.signature ((name.now, sort) ∷ binders.old) }
-    ensures value { MatchResult result (λ n. NumbersFormula names.now.signature names.now.declared ((name.now, sort) ∷ binders.old) body.now n)
+    ensures value { MatchResult result (λ at. Puts (NumbersFormula names.now.signature names.now.declared ((name.now, sort) ∷ binders.old) body.now) cells.old cells.new at)
         (λ e. IsFault (formula_fault (modal_language names.now.signature) names.now.declared (bound_in names.now.signature ((name.now, sort) ∷ binders.old)) body.now) e) }
     ensures kept { OnOk result (binders.new ≡ binders.old) }
 {
-    match binders.enter(alloc, name, sort) {
-        Err(Memory) => Err(Fault::Memory),
-        Ok(()) => match number_boxed(alloc, names, binders, body) {
-            Err(error) => Err(error),
-            Ok(node) => {
-                binders.leave();
-                Ok(node)
-            }
-        },
-    }
+    binders.enter(alloc, name, sort)?;
+    let at = number_formula(alloc, names, binders, cells, body)?;
+    binders.leave();
+    Ok(at)
 }
 
 #[cycle(number_formula)]
@@ -222,46 +208,42 @@ fn number_modal(
     alloc: Global,
     names: &Names,
     binders: &mut Binders,
+    cells: &mut Cells,
     mode: Mode,
     index: &IndexName,
     body: &Formula,
-) -> Result<Node, Fault>
+) -> Result<usize, Fault>
     requires good { IsGoodSignature names.now.signature }
     requires scope { IsScope names.now.signature binders.old }
-    ensures value { MatchResult result (λ n. NumbersFormula names.now.signature names.now.declared binders.old (Modal1 mode index.now body.now) n)
+    ensures value { MatchResult result (λ at. Puts (NumbersFormula names.now.signature names.now.declared binders.old (Modal1 mode index.now body.now)) cells.old cells.new at)
         (λ e. IsFault (formula_fault (modal_language names.now.signature) names.now.declared (bound_in names.now.signature binders.old) (Modal1 mode index.now body.now)) e) }
     ensures kept { OnOk result (binders.new ≡ binders.old) }
 {
     let number = found_index(names, index);
-    match number_boxed(alloc, names, binders, body) {
-        Ok(node) => Ok(Node::Modal(mode, number, node)),
-        Err(error) => Err(error),
-    }
+    let part = number_formula(alloc, names, binders, cells, body)?;
+    let at = cells.put_modal(mode, number, part)?;
+    Ok(at)
 }
 
-/// Formulas from left to right.
+/// Formulas from left to right, as cells.
 #[cycle(number_formula)]
 fn number_formulas(
     alloc: Global,
     names: &Names,
     binders: &mut Binders,
+    cells: &mut Cells,
     formulas: &List<Formula>,
-) -> Result<List<Node>, Fault>
+) -> Result<List<usize>, Fault>
     requires good { IsGoodSignature names.now.signature }
     requires scope { IsScope names.now.signature binders.old }
-    ensures value { MatchResult result (λ ns. NumbersFormulas names.now.signature names.now.declared binders.old formulas.now ns)
+    ensures value { MatchResult result (λ parts. PutsAll (NumbersFormulas names.now.signature names.now.declared binders.old formulas.now) cells.old cells.new parts)
         (λ e. IsFault (formulas_faults names.now.signature names.now.declared binders.old formulas.now) e) }
     ensures kept { OnOk result (binders.new ≡ binders.old) }
 {
-    let mut nodes = room(alloc, formulas.len())?;
+    let mut parts = room(alloc, formulas.len())?;
     for formula in formulas.as_slice() {
-        match number_formula(alloc, names, binders, formula) {
-            Err(error) => return Err(error),
-            Ok(node) => match put(&mut nodes, node) {
-                Ok(()) => {}
-                Err(Memory) => return Err(Fault::Memory),
-            },
-        }
+        let part = number_formula(alloc, names, binders, cells, formula)?;
+        put(&mut parts, part)?;
     }
-    Ok(nodes)
+    Ok(parts)
 }

@@ -12,5 +12,5 @@ mod statements;
 mod typing;
 
 pub use error::SortError;
-pub use numbered_definitions::{Checked, NTerm, Node, Numbered};
+pub use formula_cells::{Cell, Checked, Span};
 pub use sort_check::check;

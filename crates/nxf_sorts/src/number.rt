@@ -5,13 +5,14 @@ ghost use Rattle.nxf_tree.specs.Sorting.{modal_language};
 ghost use Rattle.nxf_tree.specs.SortFaults.{symbol_fault, term_fault, arguments_fault, equation_fault};
 ghost use Rattle.nxf_tree.specs.Signature.{sort_at};
 ghost use Rattle.nxf_sorts.specs.steps.Scope.{bound_in};
-ghost use Rattle.nxf_sorts.specs.steps.Numbering.{IsFault, IsGoodSignature, IsScope, wrong_symbol, Uses, argument_fault, NumbersTerm, NumbersArgument, NumbersTerms, NumbersSides};
+ghost use Rattle.formula_cells.specs.Putting.{PutsTerm, PutsTerms};
+ghost use Rattle.nxf_sorts.specs.steps.Numbering.{IsFault, IsGoodSignature, IsScope, wrong_symbol, Uses, argument_fault, NumbersTerm, NumbersArgument, NumbersTerms, NumbersSides, PutsSides};
 ghost use Rattle.nxf_tree.specs.Sorting as sorting;
 ghost use Rattle.std.specs.List.{list_all};
 
 use crate::binders::Binders;
 use crate::fault::{Fault, fault_of};
-use numbered_definitions::NTerm;
+use formula_cells::Cells;
 use nxf_base::{List, Memory, SortKind, Text};
 use nxf_signatures::Names;
 use nxf_tree::Term;
@@ -25,16 +26,6 @@ pub fn put<T: Drop>(list: &mut List<T>, item: T) -> Result<(), Memory>
     match list.push(item) {
         Ok(()) => Ok(()),
         Err(_) => Err(Memory),
-    }
-}
-
-/// A value on the heap.
-pub fn boxed<T: Drop>(alloc: Global, value: T) -> Result<Boxed<T>, Fault>
-    ensures { MatchResult result (λ held. held ≡ value) (λ fault. fault ≡ Fault.Memory) }
-{
-    match Boxed::new(alloc, value) {
-        Ok(held) => Ok(held),
-        Err(_) => Err(Fault::Memory),
     }
 }
 
@@ -118,40 +109,42 @@ pub fn used_predicate<'a>(
     }
 }
 
-/// A term with numbers for names, and the number of its sort; or its first fault.
+/// A term as cells, with numbers for names, and the number of its sort; or its first fault.
 #[cycle(number_term)]
 pub fn number_term(
     alloc: Global,
     names: &Names,
     binders: &Binders,
+    cells: &mut Cells,
     term: &Term,
-) -> Result<(NTerm, u32), Fault>
+) -> Result<(usize, u32), Fault>
     requires good { IsGoodSignature names.now.signature }
     requires scope { IsScope names.now.signature binders.now }
-    ensures { MatchResult result (λ p. NumbersTerm names.now.signature names.now.declared binders.now term.now p.0 p.1)
+    ensures { MatchResult result (λ p. PutsTerm (λ n. NumbersTerm names.now.signature names.now.declared binders.now term.now n p.1) cells.old cells.new p.0)
         (λ e. IsFault (term_fault (modal_language names.now.signature) names.now.declared (bound_in names.now.signature binders.now) term.now) e) }
 {
     match term {
         Term::Var(name) => match binders.find(name) {
-            Some((level, sort)) => Ok((NTerm::Bound(level), sort)),
+            Some((level, sort)) => {
+                let at = cells.put_bound(level)?;
+                Ok((at, sort))
+            }
             None => Err(fault_of(alloc, SortKind::FreeVariable, name.bytes())),
         },
-        Term::App(name, terms) => match used_function(alloc, names, name, terms.len()) {
-            Err(error) => Err(error),
-            Ok((number, sorts, gives)) => {
-                match number_terms(
-                    alloc,
-                    names,
-                    binders,
-                    name,
-                    sorts.as_slice(),
-                    terms.as_slice(),
-                ) {
-                    Err(error) => Err(error),
-                    Ok(args) => Ok((NTerm::App(number, args), gives)),
-                }
-            }
-        },
+        Term::App(name, terms) => {
+            let (number, sorts, gives) = used_function(alloc, names, name, terms.len())?;
+            let args = number_terms(
+                alloc,
+                names,
+                binders,
+                cells,
+                name,
+                sorts.as_slice(),
+                terms.as_slice(),
+            )?;
+            let at = cells.put_app(number, args.as_slice())?;
+            Ok((at, gives))
+        }
     }
 }
 
@@ -161,42 +154,40 @@ fn number_argument(
     alloc: Global,
     names: &Names,
     binders: &Binders,
+    cells: &mut Cells,
     of: &Text,
     wanted: u32,
     term: &Term,
-) -> Result<NTerm, Fault>
+) -> Result<usize, Fault>
     requires good { IsGoodSignature names.now.signature }
     requires scope { IsScope names.now.signature binders.now }
     requires wanted { sorting.in_range names.now.signature.sorts wanted ≡ true }
-    ensures { MatchResult result (λ n. NumbersArgument names.now.signature names.now.declared binders.now of.now wanted term.now n)
+    ensures { MatchResult result (λ at. PutsTerm (NumbersArgument names.now.signature names.now.declared binders.now of.now wanted term.now) cells.old cells.new at)
         (λ e. IsFault (argument_fault names.now.signature names.now.declared binders.now of.now wanted term.now) e) }
 {
-    match number_term(alloc, names, binders, term) {
-        Err(error) => Err(error),
-        Ok((argument, sort)) => {
-            if sort == wanted {
-                Ok(argument)
-            } else {
-                Err(fault_of(alloc, SortKind::Mismatch, of.bytes()))
-            }
-        }
+    let (argument, sort) = number_term(alloc, names, binders, cells, term)?;
+    if sort == wanted {
+        Ok(argument)
+    } else {
+        Err(fault_of(alloc, SortKind::Mismatch, of.bytes()))
     }
 }
 
-/// The arguments of a symbol, each of the sort that is wanted; or their first fault.
+/// The arguments of a symbol as cells, each of the sort that is wanted; or their first fault.
 #[cycle(number_term)]
 pub fn number_terms(
     alloc: Global,
     names: &Names,
     binders: &Binders,
+    cells: &mut Cells,
     of: &Text,
     sorts: &[u32],
     terms: &[Term],
-) -> Result<List<NTerm>, Fault>
+) -> Result<List<usize>, Fault>
     requires good { IsGoodSignature names.now.signature }
     requires scope { IsScope names.now.signature binders.now }
     requires sorts { list_all (sorting.in_range names.now.signature.sorts) sorts.now ≡ true }
-    ensures { MatchResult result (λ ns. NumbersTerms names.now.signature names.now.declared binders.now of.now (map (sort_at names.now.signature.sorts) sorts.now) terms.now ns)
+    ensures { MatchResult result (λ args. PutsTerms (NumbersTerms names.now.signature names.now.declared binders.now of.now (map (sort_at names.now.signature.sorts) sorts.now) terms.now) cells.old cells.new args)
         (λ e. IsFault (arguments_fault (modal_language names.now.signature) names.now.declared (bound_in names.now.signature binders.now) of.now (map (sort_at names.now.signature.sorts) sorts.now) terms.now) e) }
 {
     let mut args = room(alloc, terms.len())?;
@@ -205,54 +196,32 @@ pub fn number_terms(
         if at >= sorts.len() {
             return Err(fault_of(alloc, SortKind::Mismatch, of.bytes()));
         }
-        match number_argument(alloc, names, binders, of, sorts[at], term) {
-            Err(error) => return Err(error),
-            Ok(argument) => match put(&mut args, argument) {
-                Ok(()) => {}
-                Err(Memory) => return Err(Fault::Memory),
-            },
-        }
+        let argument = number_argument(alloc, names, binders, cells, of, sorts[at], term)?;
+        put(&mut args, argument)?;
         at += 1;
     }
     Ok(args)
 }
 
-/// Two terms on the heap.
-fn boxed_sides(
-    alloc: Global,
-    left: NTerm,
-    right: NTerm,
-) -> Result<(Boxed<NTerm>, Boxed<NTerm>), Fault>
-    ensures { MatchResult result (λ p. (p.0 ≡ left) × (p.1 ≡ right)) (λ e. e ≡ Fault.Memory) }
-{
-    let left = boxed(alloc, left)?;
-    Ok((left, boxed(alloc, right)?))
-}
-
-/// Two terms of one sort; or the first fault of the left, of the right, or of both together.
+/// Two terms of one sort, as cells; or the first fault of the left, of the right, or of both together.
 pub fn number_sides(
     alloc: Global,
     names: &Names,
     binders: &Binders,
+    cells: &mut Cells,
     left: &Boxed<Term>,
     right: &Boxed<Term>,
-) -> Result<(Boxed<NTerm>, Boxed<NTerm>), Fault>
+) -> Result<(usize, usize), Fault>
     requires good { IsGoodSignature names.now.signature }
     requires scope { IsScope names.now.signature binders.now }
-    ensures { MatchResult result (λ p. NumbersSides names.now.signature names.now.declared binders.now left.now right.now p.0 p.1)
+    ensures { MatchResult result (λ p. PutsSides (NumbersSides names.now.signature names.now.declared binders.now left.now right.now) cells.old cells.new p.0 p.1)
         (λ e. IsFault (equation_fault (modal_language names.now.signature) names.now.declared (bound_in names.now.signature binders.now) left.now right.now) e) }
 {
-    match number_term(alloc, names, binders, left.get()) {
-        Err(error) => Err(error),
-        Ok((a, s)) => match number_term(alloc, names, binders, right.get()) {
-            Err(error) => Err(error),
-            Ok((b, t)) => {
-                if s == t {
-                    boxed_sides(alloc, a, b)
-                } else {
-                    Err(fault_of(alloc, SortKind::Mismatch, b"="))
-                }
-            }
-        },
+    let (a, s) = number_term(alloc, names, binders, cells, left.get())?;
+    let (b, t) = number_term(alloc, names, binders, cells, right.get())?;
+    if s == t {
+        Ok((a, b))
+    } else {
+        Err(fault_of(alloc, SortKind::Mismatch, b"="))
     }
 }

@@ -13,15 +13,16 @@ ghost use Rattle.nxf_tree.specs.declared.profile.Profile.TheVariants as profiles
 ghost use Rattle.nxf_tree.specs.Regular.{IsRegular};
 ghost use Rattle.nxf_tree.specs.Profiles.{allowed_in};
 ghost use Rattle.numbered_definitions.specs.NamedForm.{all_named, formulas_of};
+ghost use Rattle.formula_cells.specs.Stored.{formulas_in};
 ghost use Rattle.nxf_sorts.specs.Judging.{IsFileFault};
 
 use crate::error::SortError;
 use crate::overrides::judge_overrides;
 use crate::statements::number_statements;
 use crate::typing::judge_typings;
+use formula_cells::{Cells, Checked};
 use logic_spec::Spec;
-use numbered_definitions::{Checked, Numbered};
-use nxf_base::{List, Memory};
+use nxf_base::Memory;
 use nxf_signatures::Names;
 use nxf_tree::{Body, File, Statement};
 use std::alloc::Global;
@@ -61,17 +62,12 @@ fn greatest_depth(statements: &[Statement]) -> usize
     deepest
 }
 
-/// The formulas of a file with numbers for names; or the first fault of its type statements, formulas and overrides.
-fn number_file(
-    alloc: Global,
-    names: &Names,
-    file: &File,
-    spec: &Spec,
-) -> Result<List<Numbered>, SortError>
+/// The formulas of a file as cells, with numbers for names; or the first fault of its type statements, formulas and overrides.
+fn number_file(alloc: Global, names: &Names, file: &File, spec: &Spec) -> Result<Cells, SortError>
     requires signature { names.now.signature ≡ signature_of (asked_by spec.now) file.now }
     requires declared { names.now.declared ≡ firsts same_symbol (declared file.now.statements) }
     requires few { length file.now.statements < 2 ^ 31 }
-    ensures { MatchResult result (λ ns. (sort_fault_of (asked_by spec.now) file.now ≡ None) × (all_named (signature_of (asked_by spec.now) file.now) ns ≡ Some (formulas_of file.now)))
+    ensures { MatchResult result (λ cells. (sort_fault_of (asked_by spec.now) file.now ≡ None) × (all_named (signature_of (asked_by spec.now) file.now) (formulas_in cells) ≡ Some (formulas_of file.now)))
         (λ e. IsFileFault (sort_fault_of (asked_by spec.now) file.now) e) }
 {
     let statements = file.statements.as_slice();
@@ -79,9 +75,9 @@ fn number_file(
         Err(error) => Err(error),
         Ok(()) => match number_statements(alloc, names, statements) {
             Err(error) => Err(error),
-            Ok(formulas) => match judge_overrides(alloc, names, spec.place(), spec.overrides()) {
+            Ok(cells) => match judge_overrides(alloc, names, spec.place(), spec.overrides()) {
                 Err(error) => Err(error),
-                Ok(()) => Ok(formulas),
+                Ok(()) => Ok(cells),
             },
         },
     }
@@ -105,9 +101,9 @@ pub fn check(alloc: Global, file: &File, spec: &Spec) -> Result<Checked, SortErr
     };
     match number_file(alloc, &names, file, spec) {
         Err(error) => Err(error),
-        Ok(formulas) => Ok(Checked::new(
+        Ok(cells) => Ok(Checked::new(
             names.into_signature(),
-            formulas,
+            cells,
             greatest_depth(file.statements.as_slice()),
         )),
     }

@@ -20,11 +20,11 @@ use Rattle.nxf_tree.specs.WellFormed.{HasDifferentNames}
 use Rattle.numbered_definitions.specs.declared.node.NTerm.{NTerm}
 use Rattle.numbered_definitions.specs.declared.node.Node.{Node}
 use Rattle.numbered_definitions.specs.declared.node.Node as node
-use Rattle.numbered_definitions.specs.NamedForm.{both, symbol_name, sort_name, index_name, named_term, named_terms, named_form, named_forms}
+use Rattle.numbered_definitions.specs.NamedForm.{NodeNot, NodePair, NodeQuant, NodeModal, both, symbol_name, sort_name, index_name, named_term, named_terms, named_form, named_forms}
 use Rattle.classical_syntax.proofs.Places.{is_constant-place}
 use Rattle.nxf_translate.specs.steps.Forms.{HasTerm, HasTerms, HasForm, HasForms, IsTerm, IsForm, AreForms}
 use Rattle.nxf_translate.proofs.Options.{mapped, joined}
-use Rattle.nxf_translate.proofs.Rows.{of_Not, of_And, of_Or, of_Pair, of_Quant, of_Modal}
+use Rattle.nxf_translate.proofs.Rows.{of_And, of_Or}
 use Rattle.nxf_translate.proofs.TermCases.{named-place, named-at}
 use denote.Hole.Carrier.{hidden}
 
@@ -60,8 +60,8 @@ module _ (sig : Signature) (xs : List (List ℕ)) where
   pub differ-right : (a b : NTerm) → HasForm sig xs (node.Differ a b) → HasTerm sig xs b
   differ-right a b h = joined Differ (named_term sig xs a) (named_term sig xs b) h.formula h.named (λ t u e i j. record { term = u; named = i })
 
-  pub not-part : (n : Node) → HasForm sig xs (node.Not n) → HasForm sig xs n
-  not-part n h = mapped Not (named_form sig xs n) h.formula (sym (of_Not sig xs n) ∙ h.named) (λ g e i. record { formula = g; named = e })
+  pub not-part : (n : Node) → HasForm sig xs (NodeNot n) → HasForm sig xs n
+  not-part n h = mapped Not (named_form sig xs n) h.formula h.named (λ g e i. record { formula = g; named = e })
 
   pub and-parts : (ns : List Node) → HasForm sig xs (node.And ns) → HasForms sig xs ns
   and-parts ns h = mapped And (named_forms sig xs ns) h.formula (sym (of_And sig xs ns) ∙ h.named) (λ gs e i. record { formulas = gs; named = e })
@@ -69,29 +69,29 @@ module _ (sig : Signature) (xs : List (List ℕ)) where
   pub or-parts : (ns : List Node) → HasForm sig xs (node.Or ns) → HasForms sig xs ns
   or-parts ns h = mapped Or (named_forms sig xs ns) h.formula (sym (of_Or sig xs ns) ∙ h.named) (λ gs e i. record { formulas = gs; named = e })
 
-  pub pair-left : (op : Op) (a b : Node) → HasForm sig xs (node.Pair op a b) → HasForm sig xs a
+  pub pair-left : (op : Op) (a b : Node) → HasForm sig xs (NodePair op a b) → HasForm sig xs a
   pair-left op a b h =
-      joined (Pair op) (named_form sig xs a) (named_form sig xs b) h.formula (sym (of_Pair sig xs op a b) ∙ h.named) (λ f g e i j. record { formula = f; named = e })
+      joined (Pair op) (named_form sig xs a) (named_form sig xs b) h.formula h.named (λ f g e i j. record { formula = f; named = e })
 
-  pub pair-right : (op : Op) (a b : Node) → HasForm sig xs (node.Pair op a b) → HasForm sig xs b
+  pub pair-right : (op : Op) (a b : Node) → HasForm sig xs (NodePair op a b) → HasForm sig xs b
   pair-right op a b h =
-      joined (Pair op) (named_form sig xs a) (named_form sig xs b) h.formula (sym (of_Pair sig xs op a b) ∙ h.named) (λ f g e i j. record { formula = g; named = i })
+      joined (Pair op) (named_form sig xs a) (named_form sig xs b) h.formula h.named (λ f g e i j. record { formula = g; named = i })
 
-  pub quant-sort : (q : Quantifier) (k : ℕ) (x : List ℕ) (n : Node) → HasForm sig xs (node.Quant q k x n) → k < length sig.sorts
+  pub quant-sort : (q : Quantifier) (k : ℕ) (x : List ℕ) (n : Node) → HasForm sig xs (NodeQuant q k x n) → k < length sig.sorts
   quant-sort q k x n h =
-      joined (Quant q x) (sort_name sig k) (named_form sig (xs ++ x ∷ []) n) h.formula (sym (of_Quant sig xs q k x n) ∙ h.named) (λ s g e i j. named-place (λ (e : SortEntry). e.name) sig.sorts k s e)
+      joined (Quant q x) (sort_name sig k) (named_form sig (xs ++ x ∷ []) n) h.formula h.named (λ s g e i j. named-place (λ (e : SortEntry). e.name) sig.sorts k s e)
 
-  pub quant-body : (q : Quantifier) (k : ℕ) (x : List ℕ) (n : Node) → HasForm sig xs (node.Quant q k x n) → HasForm sig (xs ++ x ∷ []) n
+  pub quant-body : (q : Quantifier) (k : ℕ) (x : List ℕ) (n : Node) → HasForm sig xs (NodeQuant q k x n) → HasForm sig (xs ++ x ∷ []) n
   quant-body q k x n h =
-      joined (Quant q x) (sort_name sig k) (named_form sig (xs ++ x ∷ []) n) h.formula (sym (of_Quant sig xs q k x n) ∙ h.named) (λ s g e i j. record { formula = g; named = i })
+      joined (Quant q x) (sort_name sig k) (named_form sig (xs ++ x ∷ []) n) h.formula h.named (λ s g e i j. record { formula = g; named = i })
 
-  pub modal-index : (m : Mode) (k : ℕ) (n : Node) → HasForm sig xs (node.Modal m k n) → k < length sig.indexes
+  pub modal-index : (m : Mode) (k : ℕ) (n : Node) → HasForm sig xs (NodeModal m k n) → k < length sig.indexes
   modal-index m k n h =
-      joined (Modal m) (index_name sig k) (named_form sig xs n) h.formula (sym (of_Modal sig xs m k n) ∙ h.named) (λ s g e i j. named-place (λ (e : IndexEntry). e.name) sig.indexes k s e)
+      joined (Modal m) (index_name sig k) (named_form sig xs n) h.formula h.named (λ s g e i j. named-place (λ (e : IndexEntry). e.name) sig.indexes k s e)
 
-  pub modal-body : (m : Mode) (k : ℕ) (n : Node) → HasForm sig xs (node.Modal m k n) → HasForm sig xs n
+  pub modal-body : (m : Mode) (k : ℕ) (n : Node) → HasForm sig xs (NodeModal m k n) → HasForm sig xs n
   modal-body m k n h =
-      joined (Modal m) (index_name sig k) (named_form sig xs n) h.formula (sym (of_Modal sig xs m k n) ∙ h.named) (λ s g e i j. record { formula = g; named = i })
+      joined (Modal m) (index_name sig k) (named_form sig xs n) h.formula h.named (λ s g e i j. record { formula = g; named = i })
 
   module _ (w : Term) (d : ℕ) where
     pub atom-is : (k : ℕ) (ns : List NTerm) (entry : SymbolEntry) (ts : List Term) → slice_get sig.symbols k ≡ Some entry
@@ -109,9 +109,9 @@ module _ (sig : Signature) (xs : List (List ℕ)) where
     differ-is a b t u h k g named =
         joined Differ (named_term sig xs a) (named_term sig xs b) g named (λ x y e i j. (λ l. Differ (h x e l) (k y i l)) ∙ ap (st sig w d) j)
 
-    pub not-is : (n : Node) (f : Formula) → IsForm sig xs w d n f → IsForm sig xs w d (node.Not n) (Not1 f)
+    pub not-is : (n : Node) (f : Formula) → IsForm sig xs w d n f → IsForm sig xs w d (NodeNot n) (Not1 f)
     not-is n f h g named =
-        mapped Not (named_form sig xs n) g (sym (of_Not sig xs n) ∙ named) (λ p e i.
+        mapped Not (named_form sig xs n) g named (λ p e i.
         (λ l. Not1 (h p e l)) ∙ ap (st sig w d) (sym (Not_is p) ∙ i))
 
     pub and-is : (ns : List Node) (fs : List Formula) → AreForms sig xs w d ns fs → IsForm sig xs w d (node.And ns) (And fs)
@@ -124,23 +124,23 @@ module _ (sig : Signature) (xs : List (List ℕ)) where
         mapped Or (named_forms sig xs ns) g (sym (of_Or sig xs ns) ∙ named) (λ ps e i.
         ap Or (h ps e) ∙ sym (st_of_Or sig w d ps) ∙ ap (st sig w d) i)
 
-    pub pair-is : (op : Op) (a b : Node) (f g : Formula) → IsForm sig xs w d a f → IsForm sig xs w d b g → IsForm sig xs w d (node.Pair op a b) (Pair2 op f g)
+    pub pair-is : (op : Op) (a b : Node) (f g : Formula) → IsForm sig xs w d a f → IsForm sig xs w d b g → IsForm sig xs w d (NodePair op a b) (Pair2 op f g)
     pair-is op a b f g h k z named =
-        joined (Pair op) (named_form sig xs a) (named_form sig xs b) z (sym (of_Pair sig xs op a b) ∙ named) (λ p r e i j.
+        joined (Pair op) (named_form sig xs a) (named_form sig xs b) z named (λ p r e i j.
         (λ l. Pair2 op (h p e l) (k r i l)) ∙ ap (st sig w d) (sym (Pair_is op p r) ∙ j))
 
     pub quant-is : (q : Quantifier) (k : ℕ) (x : List ℕ) (n : Node) (entry : SortEntry) (f : Formula) → HasDifferentNames sig → slice_get sig.sorts k ≡ Some entry → IsForm sig (xs ++ x ∷ []) w d n f
-        → IsForm sig xs w d (node.Quant q k x n) (Quant1 q (user_variable x) (user_sort entry.name) (guarded (constant_regime entry.regime) q (Atom (existence_name entry.name) (w ∷ Var (user_variable x) ∷ [])) f))
+        → IsForm sig xs w d (NodeQuant q k x n) (Quant1 q (user_variable x) (user_sort entry.name) (guarded (constant_regime entry.regime) q (Atom (existence_name entry.name) (w ∷ Var (user_variable x) ∷ [])) f))
     quant-is q k x n entry f different at h z named =
-        joined (Quant q x) (sort_name sig k) (named_form sig (xs ++ x ∷ []) n) z (sym (of_Quant sig xs q k x n) ∙ named) (λ s p e i j.
+        joined (Quant q x) (sort_name sig k) (named_form sig (xs ++ x ∷ []) n) z named (λ s p e i j.
         (λ l. Quant1 q (user_variable x) (user_sort entry.name) (guarded (sym (is_constant-place sig different k entry at) l) q (Atom (existence_name entry.name) (w ∷ Var (user_variable x) ∷ [])) (h p i l)))
         ∙ ap (λ r. Quant1 q (user_variable x) (user_sort r) (guarded (is_constant sig r) q (Atom (existence_name r) (w ∷ Var (user_variable x) ∷ [])) (st sig w d p))) (named-at (λ (e : SortEntry). e.name) sig.sorts k entry s at e)
         ∙ ap (st sig w d) (sym (Quant_is q x s p) ∙ j))
 
     pub modal-is : (m : Mode) (k : ℕ) (n : Node) (entry : IndexEntry) (f : Formula) → slice_get sig.indexes k ≡ Some entry → IsForm sig xs (Var (world_variable d)) (suc d) n f
-        → IsForm sig xs w d (node.Modal m k n) (over_worlds m d (Atom (relation_name entry.name) (w ∷ Var (world_variable d) ∷ [])) f)
+        → IsForm sig xs w d (NodeModal m k n) (over_worlds m d (Atom (relation_name entry.name) (w ∷ Var (world_variable d) ∷ [])) f)
     modal-is m k n entry f at h z named =
-        joined (Modal m) (index_name sig k) (named_form sig xs n) z (sym (of_Modal sig xs m k n) ∙ named) (λ r p e i j.
+        joined (Modal m) (index_name sig k) (named_form sig xs n) z named (λ r p e i j.
         (λ l. over_worlds m d (Atom (relation_name (named-at (λ (e : IndexEntry). e.name) sig.indexes k entry r at e l)) (w ∷ Var (world_variable d) ∷ [])) (h p i l))
         ∙ ap (st sig w d) (sym (Modal_is m r p) ∙ j))
 

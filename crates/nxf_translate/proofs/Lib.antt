@@ -1,5 +1,5 @@
 pub mod FormCases
-pub mod Measures
+pub mod Members
 pub mod Options
 pub mod Rows
 pub mod TermCases

@@ -1,5 +1,6 @@
 //! The translation of formulas.
-ghost use Rattle.std.specs.Prelude.{◌≡◌, ℕ, List, [], ◌∷◌, ◌++◌, IfOk, OnOk};
+ghost use Rattle.std.specs.Prelude.{◌≡◌, ℕ, ◌<◌, ◌≤◌, List, [], ◌∷◌, ◌++◌, map, length, IfOk, OnOk};
+ghost use Rattle.std.specs.List.{All};
 ghost use Rattle.nxf_tree.specs.Embedding.{guarded, over_worlds};
 ghost use Rattle.nxf_tree.specs.Names as spelled;
 ghost use Rattle.nxf_tree.specs.Shapes.{Quant1};
@@ -8,7 +9,10 @@ ghost use Rattle.nxf_tree.specs.WellFormed.{HasDifferentNames};
 ghost use Rattle.nxf_tree.specs.declared.tree.Formula.{Atom};
 ghost use Rattle.nxf_tree.specs.declared.tree.Term.{Var};
 ghost use Rattle.numbered_definitions.specs.declared.node.Node as spec;
-ghost use Rattle.nxf_translate.specs.steps.Forms.{HasForm, HasForms, HasTerm, HasTerms, IsTerm, IsForm, AreForms, IsEmbedded};
+ghost use Rattle.numbered_definitions.specs.NamedForm.{NodeNot, NodePair, NodeQuant, NodeModal};
+ghost use Rattle.formula_cells.specs.Stored as stored;
+ghost use Rattle.formula_cells.specs.Stored.{IsFormula, IsPart, IsArgument, node_at, term_at};
+ghost use Rattle.nxf_translate.specs.steps.Forms.{HasForm, HasForms, HasTerm, IsTerm, IsForm, AreForms, IsEmbedded};
 ghost use Rattle.nxf_translate.specs.steps.Place.{term_of};
 
 use crate::place::{Place, place_term};
@@ -17,85 +21,95 @@ use classical_syntax::{
     existence_name, is_constant_regime, relation_name, two_terms, user_name, user_sort,
     user_variable, world_sort, world_variable,
 };
-use numbered_definitions::{NTerm, Node};
+use formula_cells::{Cell, Checked};
 use nxf_base::{List, Memory, Text};
 use nxf_tree::{
-    Formula, IndexName, Mode, Op, Quantifier, Scope, Signature, SortEntry, Term, both, equation,
-    inequation, negated, pair, quantified,
+    Formula, IndexName, Mode, Op, Quantifier, Scope, SortEntry, Term, both, equation, inequation,
+    negated, pair, quantified,
 };
-use sqlite_items::Boxed;
 use std::alloc::Global;
 
-/// Where a formula is translated: over which signature, at which world, and with which number for the next variable for a
+/// Where a formula is translated: over which checked file, at which world, and with which number for the next variable for a
 /// world.
 #[derive(Clone, Copy)]
 struct Here<'a> {
-    signature: &'a Signature,
+    checked: &'a Checked,
     place: Place,
     next: u64,
 }
 
-/// The translation of a formula. `binders` are the variables of the enclosing quantifiers from the outside in, and stay as
-/// they are.
+/// The translation of the formula of a cell. `binders` are the variables of the enclosing quantifiers from the outside in,
+/// and stay as they are.
 #[cycle(translate)]
 fn translate(
     alloc: Global,
     here: Here<'_>,
     binders: &mut Vec<Text>,
-    node: &Node,
+    at: usize,
 ) -> Result<Formula, Memory>
-    requires different { HasDifferentNames here.signature.now }
-    requires named { HasForm here.signature.now binders.old.items node.now }
-    ensures translated { IfOk result (IsForm here.entry.signature.now binders.old.items (term_of here.entry.place) here.entry.next node.now) }
+    requires different { HasDifferentNames here.checked.now.signature }
+    requires kind { IsFormula here.checked.now.stored at }
+    requires named { HasForm here.checked.now.signature binders.old.items (node_at here.checked.now.stored at) }
+    ensures translated { let checked = here.entry.checked.now in
+        IfOk result (IsForm checked.signature binders.old.items (term_of here.entry.place) here.entry.next (node_at checked.stored at)) }
     ensures kept { OnOk result (binders.new.items ≡ binders.old.items) }
 {
-    match node {
-        Node::True => Ok(Formula::True),
-        Node::False => Ok(Formula::False),
-        Node::Atom(number, terms) => atom(alloc, here, binders.as_slice(), *number, terms),
-        Node::Same(left, right) => same(alloc, here, binders.as_slice(), left, right),
-        Node::Differ(left, right) => differ(alloc, here, binders.as_slice(), left, right),
-        Node::Not(part) => negation(alloc, here, binders, part.get()),
-        Node::And(parts) => Ok(Formula::And(translate_all(alloc, here, binders, parts)?)),
-        Node::Or(parts) => Ok(Formula::Or(translate_all(alloc, here, binders, parts)?)),
-        Node::Pair(op, left, right) => {
-            two_sides(alloc, here, binders, *op, left.get(), right.get())
+    match here.checked.cell(at) {
+        Cell::True => Ok(Formula::True),
+        Cell::False => Ok(Formula::False),
+        Cell::Atom(number, span) => {
+            let args = here.checked.parts(*span);
+            atom(alloc, here, binders.as_slice(), *number, at, args)
         }
-        Node::Quant(quantifier, sort, variable, body) => quantification(
-            alloc,
-            here,
-            binders,
-            *quantifier,
-            *sort,
-            variable,
-            body.get(),
-        ),
-        Node::Modal(mode, index, body) => {
-            modality(alloc, here, binders, *mode, *index, body.get())
+        Cell::Same(left, right) => same(alloc, here, binders.as_slice(), *left, *right),
+        Cell::Differ(left, right) => differ(alloc, here, binders.as_slice(), *left, *right),
+        Cell::Not(part) => negation(alloc, here, binders, *part),
+        Cell::And(span) => {
+            let parts = here.checked.parts(*span);
+            Ok(Formula::And(translate_all(alloc, here, binders, at, parts)?))
         }
+        Cell::Or(span) => {
+            let parts = here.checked.parts(*span);
+            Ok(Formula::Or(translate_all(alloc, here, binders, at, parts)?))
+        }
+        Cell::Pair(op, left, right) => two_sides(alloc, here, binders, *op, *left, *right),
+        Cell::Quant(quantifier, sort, variable, body) => {
+            let variable = here.checked.name(*variable);
+            quantification(alloc, here, binders, *quantifier, *sort, variable, *body)
+        }
+        Cell::Modal(mode, index, body) => modality(alloc, here, binders, *mode, *index, *body),
+        Cell::Bound(_) => unreachable!(),
+        Cell::App(_, _) => unreachable!(),
     }
 }
 
+/// An atom over the terms of some cells that stand before a place.
 fn atom(
     alloc: Global,
     here: Here<'_>,
     binders: &[Text],
     number: u32,
-    terms: &List<NTerm>,
+    before: usize,
+    args: &[usize],
 ) -> Result<Formula, Memory>
-    requires different { HasDifferentNames here.signature.now }
-    requires named { HasForm here.signature.now binders.now (spec.Atom number terms.now) }
-    ensures { IfOk result (λ f. (d : ℕ) → IsForm here.entry.signature.now binders.now (term_of here.entry.place) d (spec.Atom number terms.now) f) }
+    requires different { HasDifferentNames here.checked.now.signature }
+    requires kind { All (IsArgument here.checked.now.stored.cells before) args.now }
+    requires within { before ≤ length here.checked.now.stored.cells }
+    requires named { let terms = map (term_at here.checked.now.stored) args.now in
+        HasForm here.checked.now.signature binders.now (spec.Atom number terms) }
+    ensures { let checked = here.entry.checked.now in let atom = spec.Atom number (map (term_at checked.stored) args.now) in
+        IfOk result (λ f. (d : ℕ) → IsForm checked.signature binders.now (term_of here.entry.place) d atom f) }
 {
-    let symbol = here.signature.symbols.get(number as usize);
+    let symbol = here.checked.signature().symbols.get(number as usize);
     let name = user_name(alloc, &symbol.name)?;
-    let mut arguments = front(alloc, true, here.place, terms.len())?;
+    let mut arguments = front(alloc, true, here.place, args.len())?;
     translate_terms(
         alloc,
-        here.signature,
+        here.checked,
         binders,
         here.place,
-        terms,
+        before,
+        args,
         &mut arguments,
     )?;
     Ok(Formula::Atom(name, arguments))
@@ -106,17 +120,21 @@ fn sides(
     alloc: Global,
     here: Here<'_>,
     binders: &[Text],
-    left: &Boxed<NTerm>,
-    right: &Boxed<NTerm>,
+    left: usize,
+    right: usize,
 ) -> Result<(Term, Term), Memory>
-    requires different { HasDifferentNames here.signature.now }
-    requires left { HasTerm here.signature.now binders.now left.now }
-    requires right { HasTerm here.signature.now binders.now right.now }
-    ensures left { IfOk result (λ terms. IsTerm here.entry.signature.now binders.now (term_of here.entry.place) left.now terms.0) }
-    ensures right { IfOk result (λ terms. IsTerm here.entry.signature.now binders.now (term_of here.entry.place) right.now terms.1) }
+    requires different { HasDifferentNames here.checked.now.signature }
+    requires left_kind { stored.IsTerm here.checked.now.stored left }
+    requires right_kind { stored.IsTerm here.checked.now.stored right }
+    requires left { HasTerm here.checked.now.signature binders.now (term_at here.checked.now.stored left) }
+    requires right { HasTerm here.checked.now.signature binders.now (term_at here.checked.now.stored right) }
+    ensures left { let checked = here.entry.checked.now in
+        IfOk result (λ terms. IsTerm checked.signature binders.now (term_of here.entry.place) (term_at checked.stored left) terms.0) }
+    ensures right { let checked = here.entry.checked.now in
+        IfOk result (λ terms. IsTerm checked.signature binders.now (term_of here.entry.place) (term_at checked.stored right) terms.1) }
 {
-    let left = translate_term(alloc, here.signature, binders, here.place, left.get())?;
-    let right = translate_term(alloc, here.signature, binders, here.place, right.get())?;
+    let left = translate_term(alloc, here.checked, binders, here.place, left)?;
+    let right = translate_term(alloc, here.checked, binders, here.place, right)?;
     Ok((left, right))
 }
 
@@ -124,12 +142,16 @@ fn same(
     alloc: Global,
     here: Here<'_>,
     binders: &[Text],
-    left: &Boxed<NTerm>,
-    right: &Boxed<NTerm>,
+    left: usize,
+    right: usize,
 ) -> Result<Formula, Memory>
-    requires different { HasDifferentNames here.signature.now }
-    requires named { HasForm here.signature.now binders.now (spec.Same left.now right.now) }
-    ensures { IfOk result (λ f. (d : ℕ) → IsForm here.entry.signature.now binders.now (term_of here.entry.place) d (spec.Same left.now right.now) f) }
+    requires different { HasDifferentNames here.checked.now.signature }
+    requires left { stored.IsTerm here.checked.now.stored left }
+    requires right { stored.IsTerm here.checked.now.stored right }
+    requires named { let term = term_at here.checked.now.stored in
+        HasForm here.checked.now.signature binders.now (spec.Same (term left) (term right)) }
+    ensures { let checked = here.entry.checked.now in let same = spec.Same (term_at checked.stored left) (term_at checked.stored right) in
+        IfOk result (λ f. (d : ℕ) → IsForm checked.signature binders.now (term_of here.entry.place) d same f) }
 {
     let (left, right) = sides(alloc, here, binders, left, right)?;
     equation(alloc, left, right)
@@ -139,12 +161,16 @@ fn differ(
     alloc: Global,
     here: Here<'_>,
     binders: &[Text],
-    left: &Boxed<NTerm>,
-    right: &Boxed<NTerm>,
+    left: usize,
+    right: usize,
 ) -> Result<Formula, Memory>
-    requires different { HasDifferentNames here.signature.now }
-    requires named { HasForm here.signature.now binders.now (spec.Differ left.now right.now) }
-    ensures { IfOk result (λ f. (d : ℕ) → IsForm here.entry.signature.now binders.now (term_of here.entry.place) d (spec.Differ left.now right.now) f) }
+    requires different { HasDifferentNames here.checked.now.signature }
+    requires left { stored.IsTerm here.checked.now.stored left }
+    requires right { stored.IsTerm here.checked.now.stored right }
+    requires named { let term = term_at here.checked.now.stored in
+        HasForm here.checked.now.signature binders.now (spec.Differ (term left) (term right)) }
+    ensures { let checked = here.entry.checked.now in let differ = spec.Differ (term_at checked.stored left) (term_at checked.stored right) in
+        IfOk result (λ f. (d : ℕ) → IsForm checked.signature binders.now (term_of here.entry.place) d differ f) }
 {
     let (left, right) = sides(alloc, here, binders, left, right)?;
     inequation(alloc, left, right)
@@ -155,32 +181,39 @@ fn negation(
     alloc: Global,
     here: Here<'_>,
     binders: &mut Vec<Text>,
-    part: &Node,
+    part: usize,
 ) -> Result<Formula, Memory>
-    requires different { HasDifferentNames here.signature.now }
-    requires named { HasForm here.signature.now binders.old.items (spec.Not part.now) }
-    ensures translated { IfOk result (IsForm here.entry.signature.now binders.old.items (term_of here.entry.place) here.entry.next (spec.Not part.now)) }
+    requires different { HasDifferentNames here.checked.now.signature }
+    requires kind { IsFormula here.checked.now.stored part }
+    requires named { HasForm here.checked.now.signature binders.old.items (NodeNot (node_at here.checked.now.stored part)) }
+    ensures translated { let checked = here.entry.checked.now in let node = NodeNot (node_at checked.stored part) in
+        IfOk result (IsForm checked.signature binders.old.items (term_of here.entry.place) here.entry.next node) }
     ensures kept { OnOk result (binders.new.items ≡ binders.old.items) }
 {
     let part = translate(alloc, here, binders, part)?;
     negated(alloc, part)
 }
 
+/// The translations of the formulas of some cells that stand before a place.
 #[cycle(translate)]
 fn translate_all(
     alloc: Global,
     here: Here<'_>,
     binders: &mut Vec<Text>,
-    parts: &List<Node>,
+    before: usize,
+    parts: &[usize],
 ) -> Result<List<Formula>, Memory>
-    requires different { HasDifferentNames here.signature.now }
-    requires named { HasForms here.signature.now binders.old.items parts.now }
-    ensures translated { IfOk result (AreForms here.entry.signature.now binders.old.items (term_of here.entry.place) here.entry.next parts.now) }
+    requires different { HasDifferentNames here.checked.now.signature }
+    requires kind { All (IsPart here.checked.now.stored.cells before) parts.now }
+    requires within { before ≤ length here.checked.now.stored.cells }
+    requires named { HasForms here.checked.now.signature binders.old.items (map (node_at here.checked.now.stored) parts.now) }
+    ensures translated { let checked = here.entry.checked.now in let nodes = map (node_at checked.stored) parts.now in
+        IfOk result (AreForms checked.signature binders.old.items (term_of here.entry.place) here.entry.next nodes) }
     ensures kept { OnOk result (binders.new.items ≡ binders.old.items) }
 {
     let mut made = List::with_capacity(alloc, parts.len())?;
-    for part in parts.as_slice() {
-        let translated = translate(alloc, here, binders, part)?;
+    for part in parts {
+        let translated = translate(alloc, here, binders, *part)?;
         made.push(translated)?;
     }
     Ok(made)
@@ -192,12 +225,16 @@ fn two_sides(
     here: Here<'_>,
     binders: &mut Vec<Text>,
     op: Op,
-    left: &Node,
-    right: &Node,
+    left: usize,
+    right: usize,
 ) -> Result<Formula, Memory>
-    requires different { HasDifferentNames here.signature.now }
-    requires named { HasForm here.signature.now binders.old.items (spec.Pair op left.now right.now) }
-    ensures translated { IfOk result (IsForm here.entry.signature.now binders.old.items (term_of here.entry.place) here.entry.next (spec.Pair op left.now right.now)) }
+    requires different { HasDifferentNames here.checked.now.signature }
+    requires left { IsFormula here.checked.now.stored left }
+    requires right { IsFormula here.checked.now.stored right }
+    requires named { let node = node_at here.checked.now.stored in
+        HasForm here.checked.now.signature binders.old.items (NodePair op (node left) (node right)) }
+    ensures translated { let checked = here.entry.checked.now in let node = NodePair op (node_at checked.stored left) (node_at checked.stored right) in
+        IfOk result (IsForm checked.signature binders.old.items (term_of here.entry.place) here.entry.next node) }
     ensures kept { OnOk result (binders.new.items ≡ binders.old.items) }
 {
     let left = translate(alloc, here, binders, left)?;
@@ -213,17 +250,20 @@ fn quantification(
     quantifier: Quantifier,
     sort: u32,
     variable: &Text,
-    body: &Node,
+    body: usize,
 ) -> Result<Formula, Memory>
-    requires different { HasDifferentNames here.signature.now }
-    requires named { HasForm here.signature.now binders.old.items (spec.Quant quantifier sort variable.now body.now) }
-    ensures translated { IfOk result (IsForm here.entry.signature.now binders.old.items (term_of here.entry.place) here.entry.next (spec.Quant quantifier sort variable.now body.now)) }
+    requires different { HasDifferentNames here.checked.now.signature }
+    requires kind { IsFormula here.checked.now.stored body }
+    requires named { let node = NodeQuant quantifier sort variable.now (node_at here.checked.now.stored body) in
+        HasForm here.checked.now.signature binders.old.items node }
+    ensures translated { let checked = here.entry.checked.now in let node = NodeQuant quantifier sort variable.now (node_at checked.stored body) in
+        IfOk result (IsForm checked.signature binders.old.items (term_of here.entry.place) here.entry.next node) }
     ensures kept { OnOk result (binders.new.items ≡ binders.old.items) }
 {
     enter(alloc, binders, variable)?;
     let body = translate(alloc, here, binders, body)?;
     let _ = binders.pop();
-    let sort = here.signature.sorts.get(sort as usize);
+    let sort = here.checked.signature().sorts.get(sort as usize);
     quantify(alloc, sort, here.place, quantifier, variable, body)
 }
 
@@ -294,11 +334,13 @@ fn modality(
     binders: &mut Vec<Text>,
     mode: Mode,
     index: u32,
-    body: &Node,
+    body: usize,
 ) -> Result<Formula, Memory>
-    requires different { HasDifferentNames here.signature.now }
-    requires named { HasForm here.signature.now binders.old.items (spec.Modal mode index body.now) }
-    ensures translated { IfOk result (IsForm here.entry.signature.now binders.old.items (term_of here.entry.place) here.entry.next (spec.Modal mode index body.now)) }
+    requires different { HasDifferentNames here.checked.now.signature }
+    requires kind { IsFormula here.checked.now.stored body }
+    requires named { HasForm here.checked.now.signature binders.old.items (NodeModal mode index (node_at here.checked.now.stored body)) }
+    ensures translated { let checked = here.entry.checked.now in let node = NodeModal mode index (node_at checked.stored body) in
+        IfOk result (IsForm checked.signature binders.old.items (term_of here.entry.place) here.entry.next node) }
     ensures kept { OnOk result (binders.new.items ≡ binders.old.items) }
 {
     // no memory holds a formula that is nested as deep as numbers go
@@ -306,12 +348,12 @@ fn modality(
         return Err(Memory);
     };
     let there = Here {
-        signature: here.signature,
+        checked: here.checked,
         place: Place::Reached(here.next),
         next,
     };
     let body = translate(alloc, there, binders, body)?;
-    let name = &here.signature.indexes.get(index as usize).name;
+    let name = &here.checked.signature().indexes.get(index as usize).name;
     reached(alloc, name, here.place, here.next, mode, body)
 }
 
@@ -351,34 +393,36 @@ fn access(alloc: Global, index: &IndexName, place: Place, next: u64) -> Result<F
     Ok(Formula::Atom(name, two_terms(alloc, from, to)?))
 }
 
-/// The translation of a whole formula: at the actual world where it is local, for every world where it is global.
+/// The translation of the whole formula of a cell: at the actual world where it is local, for every world where it is
+/// global.
 pub fn translate_closed(
     alloc: Global,
-    signature: &Signature,
+    checked: &Checked,
     scope: Scope,
-    node: &Node,
+    at: usize,
 ) -> Result<Formula, Memory>
-    requires different { HasDifferentNames signature.now }
-    requires named { HasForm signature.now [] node.now }
-    ensures { IfOk result (IsEmbedded signature.now scope node.now) }
+    requires different { HasDifferentNames checked.now.signature }
+    requires kind { IsFormula checked.now.stored at }
+    requires named { HasForm checked.now.signature [] (node_at checked.now.stored at) }
+    ensures { IfOk result (IsEmbedded checked.now.signature scope (node_at checked.now.stored at)) }
 {
     let mut binders = Vec::new(alloc);
     match scope {
         Scope::Local => {
             let here = Here {
-                signature,
+                checked,
                 place: Place::Actual,
                 next: 0,
             };
-            translate(alloc, here, &mut binders, node)
+            translate(alloc, here, &mut binders, at)
         }
         Scope::Global => {
             let there = Here {
-                signature,
+                checked,
                 place: Place::Reached(0),
                 next: 1,
             };
-            let body = translate(alloc, there, &mut binders, node)?;
+            let body = translate(alloc, there, &mut binders, at)?;
             let variable = world_variable(alloc, 0)?;
             let sort = world_sort(alloc)?;
             quantified(alloc, Quantifier::All, variable, sort, body)

@@ -10,7 +10,7 @@ use Rattle.nxf_tree.specs.Profile.{Reading, reading_of}
 use Rattle.nxf_tree.specs.WellFormed.{IsWellFormed}
 use Rattle.syntax_definitions.specs.Refusals.{IsOfFiles}
 use Rattle.syntax_definitions.specs.declared.gather_error.GatherError.{GatherError}
-use Rattle.numbered_definitions.specs.Checked.{CheckedFile}
+use Rattle.formula_cells.specs.Checked.{CheckedFile}
 use Rattle.numbered_definitions.specs.NamedForm.{all_named, formulas_of}
 use Rattle.nxf_run.specs.Forms.{form_of, Embed}
 use Rattle.nxf_run.specs.Answer.{IsAnswer, Gathered, IsTranslation, answer_by, answer_to}

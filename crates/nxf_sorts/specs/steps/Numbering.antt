@@ -19,6 +19,8 @@ use Rattle.nxf_sorts.specs.declared.fault.Fault.TheVariants.{Kind, Memory}
 use Rattle.numbered_definitions.specs.declared.node.NTerm.{NTerm}
 use Rattle.numbered_definitions.specs.declared.node.Node.{Node}
 use Rattle.numbered_definitions.specs.NamedForm.{symbol_name, named_term, sort_name, named_terms, named_form, named_forms}
+use Rattle.formula_cells.specs.Stored.{Stored, IsTerm, term_at}
+use Rattle.formula_cells.specs.Putting.{Grows}
 use Rattle.nxf_sorts.specs.steps.Scope.{Scope, variables, bound_in}
 
 -- the error is this fault, or there was no memory
@@ -100,3 +102,10 @@ pub record FindsNumber (sig : Signature) (s : SortName) (k : ℕ) : Type 0 where
   pub name : sort_name sig k ≡ Some s
   pub at : sort_at sig.sorts k ≡ s
   pub range : in_range sig.sorts k ≡ true
+
+-- two terms were put as cells, of which this is so
+pub record PutsSides (P : NTerm → NTerm → Type 0) (old new : Stored) (a b : ℕ) : Type 0 where
+  pub grows : Grows old new
+  pub left : IsTerm new a
+  pub right : IsTerm new b
+  pub holds : P (term_at new a) (term_at new b)

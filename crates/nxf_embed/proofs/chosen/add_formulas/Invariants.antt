@@ -1,7 +1,6 @@
-use Rattle.std.proofs.Common.{◌≡◌, ℕ, ◌<◌, ◌≤◌, ◌++◌, List, length, drop}
-use Rattle.std.specs.Prelude.{slice_get, Some}
-use Rattle.numbered_definitions.specs.declared.node.Numbered.{Numbered}
-use Rattle.numbered_definitions.specs.NamedForm.{FormulaStatement, IsSortedFormula, all_named}
+use Rattle.std.proofs.Common.{◌≡◌, ◌≤◌, ◌++◌, List, length, drop}
+use Rattle.std.specs.Prelude.{Some}
+use Rattle.numbered_definitions.specs.NamedForm.{FormulaStatement, all_named}
 use Rattle.nxf_embed.specs.steps.Chosen.{chosen}
 use Rattle.nxf_embed.proofs.chosen.add_formulas.Given as goal
 
@@ -10,5 +9,4 @@ invariant-loop-at l = record {
   within : l.next ≤ length l.parts;
   added : (fs : List FormulaStatement) → all_named l.checked.signature l.checked.formulas ≡ Some fs
       → l.statements ++ chosen l.checked.signature (drop l.at fs) (drop l.next l.parts) ≡ l.initial.statements ++ chosen l.checked.signature fs l.parts;
-  sorted : (k : ℕ) (n : Numbered) → k < l.at → slice_get l.checked.formulas k ≡ Some n → IsSortedFormula l.checked.signature n.node;
 }

@@ -23,7 +23,7 @@ returns-clause-written c file read =
     let added : c.add_axioms.new.statements ≡ declarations (classical_signature_of sig) ++ axiom_statements 1 (added_axioms sig) =
     c.in_ok-add_axioms.ensures ∙ (λ i. declared i ++ axiom_statements 1 (added_axioms (c.signature-2.ensures.value i))) in
     let all : c.add_formulas.new.statements ≡ (problem_of sig file).statements =
-    c.in_ok-add_formulas.ensures.added (formulas_of file) read.formulas
+    c.in_ok-add_formulas.ensures (formulas_of file) read.formulas
     ∙ (λ i. added i ++ file-chosen sig file c.args.parts.now read.parts i)
     ∙ append_assoc (declarations (classical_signature_of sig)) (axiom_statements 1 (added_axioms sig)) (embedded_statements sig file.statements) in
     λ i. record { statements = all i }
@@ -36,7 +36,7 @@ returns-clause-over c file read =
     let sig = c.args.checked.now.signature in
     subst (FileIsOver (classical_signature_of sig)) (sym (returns-clause-written c file read))
     (file-law sig file c.signature.ensures.well_formed.different c.signature.ensures.well_formed.in_range
-    (file-sorted sig file c.args.checked.now.formulas read.formulas c.in_ok-add_formulas.ensures.sorted))
+    (file-sorted sig file c.args.checked.now.formulas read.formulas c.signature.ensures.sorted))
 
 pub returns-clause-keeps_countermodels : goal.returns-clause-keeps_countermodels
 returns-clause-keeps_countermodels c file read =

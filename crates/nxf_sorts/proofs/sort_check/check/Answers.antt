@@ -7,7 +7,8 @@ use Rattle.nxf_tree.specs.FileDepth.{statement_list_depth}
 use Rattle.nxf_tree.specs.SignatureOf.{signature_of}
 use Rattle.nxf_tree.specs.WellFormed.{IsWellFormed}
 use Rattle.signature_laws.proofs.ProfileLaw.{well-sorted}
-use Rattle.numbered_definitions.specs.Checked.{CheckedFile, IsChecked}
+use Rattle.formula_cells.specs.Checked.{CheckedFile, IsChecked}
+use Rattle.formula_cells.specs.Stored.{formulas_in}
 use Rattle.nxf_sorts.proofs.CheckLemmas.{all_sorted, depth_is, few_statements}
 use Rattle.nxf_sorts.proofs.DepthLaw.{statements_shallow}
 use Rattle.nxf_sorts.proofs.WellFormedLaw.{well_formed}
@@ -28,10 +29,10 @@ new-requires c =
     let is : c.into_signature.result ≡ sig = c.into_signature.ensures.value ∙ c.in-Ok.ensures.signature in
     let small = subst (λ (s : Signature). length s.sorts + length s.symbols + length s.indexes ≤ 2 ^ 31) is c.into_signature.ensures.small in
     let deep : c.greatest_depth.result ≡ statement_list_depth file.statements = omega (arith, c.greatest_depth.ensures, ap statement_list_depth c.as_slice.ensures, statements_shallow file.statements, c.requires.weight) in
-    subst (λ s. IsChecked s c.in-Ok-number_file.formulas c.greatest_depth.result) (sym is) (record {
+    subst (λ s. IsChecked s (formulas_in c.in-Ok-number_file.cells) c.greatest_depth.result) (sym is) (record {
       well_formed = well_formed (allowed_in profiles.Problem) most spec file c.requires.spec c.requires.regular c.in-Ok-number_file.ensures.0 small;
-      sorted = all_sorted sig 1 file.statements c.in-Ok-number_file.formulas (well-sorted spec file c.in-Ok-number_file.ensures.0) c.in-Ok-number_file.ensures.1;
-      deepest = depth_is sig file.statements c.in-Ok-number_file.formulas c.greatest_depth.result deep c.in-Ok-number_file.ensures.1;
+      sorted = all_sorted sig 1 file.statements (formulas_in c.in-Ok-number_file.cells) (well-sorted spec file c.in-Ok-number_file.ensures.0) c.in-Ok-number_file.ensures.1;
+      deepest = depth_is sig file.statements (formulas_in c.in-Ok-number_file.cells) c.greatest_depth.result deep c.in-Ok-number_file.ensures.1;
     })
 
 pub returns-in-Ok-number_file-clause-well_formed : goal.returns-in-Ok-number_file-clause-well_formed

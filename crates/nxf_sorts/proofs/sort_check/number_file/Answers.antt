@@ -8,6 +8,7 @@ use Rattle.nxf_tree.specs.Occurrences.{declared}
 use Rattle.nxf_tree.specs.SignatureOf.{signature_of}
 use Rattle.nxf_tree.specs.SortFaults.{SortFault, type_statement_fault, formula_statement_fault, overrides_fault}
 use Rattle.nxf_signatures.proofs.Noted.{type_first}
+use Rattle.formula_cells.specs.Stored.{formulas_in}
 use Rattle.nxf_sorts.specs.steps.Numbering.{IsGoodSignature}
 use Rattle.nxf_sorts.specs.steps.Statements.{NumbersFile}
 use Rattle.signature_laws.proofs.SameFaults.{statements_same}
@@ -78,7 +79,7 @@ returns-in-Ok-judge_overrides c =
     ∙ statements_same (modal_language sig) _ us (type_first us) 1 [] ss in
     let asks : option_map (λ (f : SortFault). (c.place.result, f)) (overrides_fault (modal_language c.args.names.now.signature) c.overrides.result.now) ≡ option_map (λ (f : SortFault). (spec.place, f)) (overrides_fault (modal_language sig) spec.overrides) =
     λ i. option_map (λ (f : SortFault). (c.place.ensures i, f)) (overrides_fault (modal_language (c.requires.signature i)) (c.overrides.ensures i)) in
-    let value : NumbersFile sig c.args.names.now.declared ss c.in-Ok-number_statements.formulas =
-    subst (λ l. NumbersFile sig c.args.names.now.declared l c.in-Ok-number_statements.formulas) c.as_slice-statements.ensures
-    (subst (λ s. NumbersFile s c.args.names.now.declared c.as_slice-statements.result.now c.in-Ok-number_statements.formulas) c.requires.signature c.in-Ok-number_statements.ensures) in
+    let value : NumbersFile sig c.args.names.now.declared ss (formulas_in c.in-Ok-number_statements.cells) =
+    subst (λ l. NumbersFile sig c.args.names.now.declared l (formulas_in c.in-Ok-number_statements.cells)) c.as_slice-statements.ensures
+    (subst (λ s. NumbersFile s c.args.names.now.declared c.as_slice-statements.result.now (formulas_in c.in-Ok-number_statements.cells)) c.requires.signature c.in-Ok-number_statements.ensures) in
     ((λ i. option_or (typed i) (option_or ((sym numbered ∙ c.in-Ok-number_statements.ensures.no_fault) i) ((sym asks ∙ c.in-Ok-judge_overrides.ensures) i))), value.named (indexes-known spec file))

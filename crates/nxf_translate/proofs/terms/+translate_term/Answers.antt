@@ -1,55 +1,81 @@
-use Rattle.std.proofs.Common.{◌≡◌, ◌+◌, ◌++◌, [], get_or, take, ap, ◌∙◌, arith}
-use Rattle.std.specs.Prelude.{map}
-use Rattle.std.proofs.lemmas.Grind.{take_at_read}
+use Rattle.std.proofs.Common.{◌≡◌, ◌<◌, ◌≤◌, ◌++◌, [], length, get_or, take, ap, ◌∙◌, sym, subst, arith}
+use Rattle.std.specs.Prelude.{map, Some, slice_get}
+use Rattle.std.proofs.lemmas.List.{map_more}
 use Rattle.nxf_tree.specs.Embedding.{at_world, st_term}
-use Rattle.nxf_translate.specs.steps.Forms.{HasTerm, HasTerms}
+use Rattle.nxf_tree.specs.declared.tree.Signature.{Signature}
+use Rattle.numbered_definitions.specs.declared.node.NTerm.{NTerm, Bound}
+use Rattle.numbered_definitions.specs.declared.node.NTerm as numbered
+use Rattle.numbered_definitions.specs.NamedForm.{named_term}
+use Rattle.formula_cells.specs.Expressions.{span_of}
+use Rattle.formula_cells.specs.Stored.{IsArgument, AreArguments, term_at}
+use Rattle.formula_cells.proofs.ReadingLemmas.{good_read, term_read, argument_within}
+use Rattle.nxf_translate.specs.steps.Forms.{HasTerm}
 use Rattle.nxf_translate.specs.steps.Place.{term_of}
-use Rattle.nxf_translate.proofs.Measures.{term_depth, terms_depth, depth_of_App, term_at}
-use Rattle.nxf_translate.proofs.TermCases.{bound-place, bound-is, app-arguments, app-symbol, app-is, term-at, terms-step}
+use Rattle.nxf_translate.proofs.Members.{term-member}
+use Rattle.nxf_translate.proofs.TermCases.{bound-place, bound-is, app-arguments, app-symbol, app-is, terms-step}
 use Rattle.nxf_translate.proofs.terms.+translate_term.Goals as goal
 
 pub translate_term-bounds-binders-level : goal.translate_term-bounds-binders-level
-translate_term-bounds-binders-level t c = bound-place c.args.signature.now c.args.binders.now c.in-Bound.level (rw c.in-Bound.is at c.requires.named)
+translate_term-bounds-binders-level t c =
+    let s = c.args.checked.now.stored in
+    let sig = c.args.checked.now.signature in
+    bound-place sig c.args.binders.now c.in-Bound.level (subst (HasTerm sig c.args.binders.now) (term_read s c.args.at _ _ c.in-Bound.is c.cell.ensures.stands) c.requires.named)
 
 pub translate_term-get-symbol-requires : goal.translate_term-get-symbol-requires
-translate_term-get-symbol-requires t c = app-symbol c.args.signature.now c.args.binders.now c.in-App.number c.in-App.terms (rw c.in-App.is at c.requires.named)
+translate_term-get-symbol-requires t c =
+    let s = c.args.checked.now.stored in
+    let sig = c.args.checked.now.signature in
+    let has = subst (HasTerm sig c.args.binders.now) (term_read s c.args.at _ _ c.in-App.is c.cell.ensures.stands) c.requires.named in
+    rw c.signature.ensures.value (app-symbol sig c.args.binders.now c.in-App.number (map (term_at s) (span_of s.kids c.in-App.span)) has)
 
 pub translate_term-translate_terms-requires : goal.translate_term-translate_terms-requires
 translate_term-translate_terms-requires t c =
-    let e : term_depth c.args.term.now ≡ terms_depth c.in-App.terms + 1 = ap term_depth c.in-App.is ∙ depth_of_App c.in-App.number c.in-App.terms in
-    (omega (arith, c.decreases), (c.requires.different, app-arguments c.args.signature.now c.args.binders.now c.in-App.number c.in-App.terms (rw c.in-App.is at c.requires.named)))
+    let s = c.args.checked.now.stored in
+    let sig = c.args.checked.now.signature in
+    let within : c.args.at ≤ length s.cells = omega (arith, c.requires.kind.below) in
+    let good : AreArguments s.cells s.kids c.args.at c.in-App.span = good_read s c.args.at _ _ c.in-App.is c.cell.ensures.good in
+    let has = subst (HasTerm sig c.args.binders.now) (term_read s c.args.at _ _ c.in-App.is c.cell.ensures.stands) c.requires.named in
+    let each = app-arguments sig c.args.binders.now c.in-App.number (map (term_at s) (span_of s.kids c.in-App.span)) has in
+    (omega (arith, c.decreases), (c.requires.different, (rw c.parts-args.ensures good.all, (within, rw c.parts-args.ensures each))))
 
 pub translate_term-returns-in_ok-name-in-Bound : goal.translate_term-returns-in_ok-name-in-Bound
-translate_term-returns-in_ok-name-in-Bound t c =
-    rw (c.in-Bound.is, c.in_ok-name-in-Bound.ensures) (bound-is c.args.signature.now c.args.binders.now (term_of c.args.place) c.in-Bound.level c.index-binders-level.result c.index-binders-level.is)
+translate_term-returns-in_ok-name-in-Bound t c u named =
+    let s = c.args.checked.now.stored in
+    let sig = c.args.checked.now.signature in
+    let is : term_at s c.args.at ≡ Bound c.in-Bound.level = term_read s c.args.at _ _ c.in-Bound.is c.cell.ensures.stands in
+    rw c.in_ok-name-in-Bound.ensures
+    (bound-is sig c.args.binders.now (term_of c.args.place) c.in-Bound.level c.index-binders-level.result c.index-binders-level.is u (subst (λ n. named_term sig c.args.binders.now n ≡ Some u) is named))
 
 pub translate_term-returns-in_ok-translate_terms-in-App : goal.translate_term-returns-in_ok-translate_terms-in-App
-translate_term-returns-in_ok-translate_terms-in-App t c =
-    let sig = c.args.signature.now in
+translate_term-returns-in_ok-translate_terms-in-App t c u named =
+    let s = c.args.checked.now.stored in
+    let sig = c.args.checked.now.signature in
+    let xs = c.args.binders.now in
     let w = term_of c.args.place in
-    rw (c.in-App.is, c.in_ok-name-in-App.ensures)
-    (app-is sig c.args.binders.now w c.in-App.number c.in-App.terms c.get-symbol.result.now c.translate_terms.new.made c.requires.different c.get-symbol.ensures
-    (λ us h. c.in_ok-translate_terms-in-App.ensures us h ∙ ap (λ front. front ++ map (st_term sig w) us) (c.in_ok-arguments-in-App.ensures ∙ ap (λ b. at_world b w []) c.is_flexible_designation-flexible.ensures)))
+    let ns = map (term_at s) (span_of s.kids c.in-App.span) in
+    let is : term_at s c.args.at ≡ numbered.App c.in-App.number ns = term_read s c.args.at _ _ c.in-App.is c.cell.ensures.stands in
+    let entry = ap (λ (g : Signature). slice_get g.symbols c.in-App.number) (sym c.signature.ensures.value) ∙ c.get-symbol.ensures in
+    let front = c.in_ok-arguments-in-App.ensures ∙ ap (λ b. at_world b w []) c.is_flexible_designation-flexible.ensures in
+    rw c.in_ok-name-in-App.ensures
+    (app-is sig xs w c.in-App.number ns c.get-symbol.result.now c.translate_terms.new.made c.requires.different entry
+    (λ us h. c.in_ok-translate_terms-in-App.ensures us (rw c.parts-args.ensures h) ∙ ap (λ ts. ts ++ map (st_term sig w) us) front)
+    u (subst (λ n. named_term sig xs n ≡ Some u) is named))
 
 pub translate_terms-translate_term-requires : goal.translate_terms-translate_term-requires
 translate_terms-translate_term-requires t c =
-    let sig = c.args.signature.now in
-    let xs = c.args.binders.now in
-    let ns = c.as_slice-term-items.result.now in
-    let i = c.loop-term.term-index in
-    let has : HasTerms sig xs ns = rw c.as_slice-term-items.ensures c.requires.named in
-    let this : HasTerm sig xs c.term-item.result = rw c.term-item.is (term-at sig xs ns i c.term-item.result c.loop-term-test.true has) in
-    let d : term_depth c.term-item.result ≡ term_depth (get_or ns i c.term-item.result) = ap term_depth c.term-item.is in
-    let m = term_at ns i c.term-item.result c.loop-term-test.true in
-    let l : terms_depth ns ≡ terms_depth c.args.terms.now = ap terms_depth c.as_slice-term-items.ensures in
-    (omega (arith, c.decreases), (c.requires.different, this))
+    let s = c.args.checked.now.stored in
+    let args = c.args.args.now in
+    let i = c.loop-arg.arg-index in
+    let within : i < length args = c.loop-arg-test.true in
+    let before : IsArgument s.cells c.args.before (get_or args i 0) = c.requires.kind i 0 within in
+    (omega (arith, c.decreases, before.below), (c.requires.different, (argument_within s.cells c.args.before (length s.cells) (get_or args i 0) c.requires.within before, term-member c.args.checked.now.signature c.args.binders.now s args i 0 within c.requires.named)))
 
-pub translate_terms-loop-term-preserved : goal.translate_terms-loop-term-preserved
-translate_terms-loop-term-preserved t c =
-    let sig = c.args.signature.now in
-    let xs = c.args.binders.now in
-    let ns = c.as_slice-term-items.result.now in
-    let i = c.loop-term.term-index in
-    let more = (take_at_read ns i c.term-item.result c.loop-term-test.true).1 in
-    rw (more, ← c.term-item.is, c.in_ok-push.ensures.pushed)
-    (terms-step sig xs (term_of c.args.place) (take i ns) c.term-item.result c.args.made.now c.loop-term.made c.in_ok-translated.translated c.loop-term.invariant c.in_ok-translated.ensures)
+pub translate_terms-loop-arg-preserved : goal.translate_terms-loop-arg-preserved
+translate_terms-loop-arg-preserved t c =
+    let s = c.args.checked.now.stored in
+    let sig = c.args.checked.now.signature in
+    let args = c.args.args.now in
+    let i = c.loop-arg.arg-index in
+    let one = term_at s (get_or args i 0) in
+    rw (map_more (term_at s) args i 0 c.loop-arg-test.true, c.in_ok-push.ensures.pushed)
+    (terms-step sig c.args.binders.now (term_of c.args.place) (map (term_at s) (take i args)) one c.args.made.now c.loop-arg.made c.in_ok-translated.translated c.loop-arg.invariant c.in_ok-translated.ensures)

@@ -5,7 +5,7 @@ use Rattle.nxf_tree.specs.declared.tree.Signature.{Signature}
 use Rattle.nxf_tree.specs.declared.tree.File.{File}
 use Rattle.nxf_tree.specs.Parts.{parts_of}
 use Rattle.numbered_definitions.specs.NamedForm.{all_named, formulas_of}
-use Rattle.numbered_definitions.specs.Checked.{CheckedFile}
+use Rattle.formula_cells.specs.Checked.{CheckedFile}
 
 -- the formulas and the parts are those of the file
 pub record IsReadAs (file : File) (checked : CheckedFile) (entries : List PartEntry) : Type 0 where
