@@ -4,8 +4,7 @@ use Rattle.std.specs.Prelude.{IfOk, IfErr}
 use Rattle.tptp_lex.specs.Lexing.{Lexes}
 use Rattle.tptp_lex.proofs.Pieces.{one_lexing}
 use Rattle.nxf_tree.specs.declared.tree.File.{File}
-use Rattle.nxf_tree.specs.Profiles.{has_includes, most_arguments, levels_of}
-use Rattle.syntax_definitions.specs.Spells.{statement_parts_of, TokensSpell, IsFirstFault, Spells, IsCause}
+use Rattle.syntax_definitions.specs.Spells.{TokensSpell, IsFirstFault, Spells, IsCause}
 use Rattle.std.proofs.lemmas.List.{append-nil, take-map, drop-map}
 use Rattle.tptp_lex.specs.declared.token.Token.{Token}
 use Rattle.nxf_terminals.specs.declared.sign.Sign.TheVariants as sign
@@ -178,27 +177,3 @@ pub fault_only : (p : Profile) (bytes : List ℕ) (ts : List Token) (result : Re
 fault_only p bytes ts (Ok f) ok err k fault some = absurd (no_file ok fault)
 fault_only p bytes ts (Err (error.Syntax j)) ok err k fault some = ap (λ (x : ℕ). Err (error.Syntax x)) (one_fault err fault)
 fault_only p bytes ts (Err error.Memory) ok err k fault some = absurd (some refl)
-
--- ---- the limits of a profile
-
-module _ (p : Profile) (w : Bool) (most n : ℕ) (wp : w ≡ has_includes p) (mp : most ≡ most_arguments p) (np : n ≡ levels_of p) where
-  all_read : (ps : List Input) (ss : List Statement) → AreRead w most n ps ss → AreRead (has_includes p) (most_arguments p) (levels_of p) ps ss
-  all_read ps ss d =
-      subst (λ (x : ℕ). AreRead (has_includes p) (most_arguments p) x ps ss) np
-      (subst (λ (x : ℕ). AreRead (has_includes p) x n ps ss) mp
-      (subst (λ (x : Bool). AreRead x most n ps ss) wp d))
-
-  first_fault : (ps : List Input) (k : ℕ) → IsFirstUnread w most n ps k → IsFirstUnread (has_includes p) (most_arguments p) (levels_of p) ps k
-  first_fault ps k d =
-      subst (λ (x : ℕ). IsFirstUnread (has_includes p) (most_arguments p) x ps k) np
-      (subst (λ (x : ℕ). IsFirstUnread (has_includes p) x n ps k) mp
-      (subst (λ (x : Bool). IsFirstUnread x most n ps k) wp d))
-
-  pub spelled_at : (bytes : List ℕ) (ts : List Token) (result : Result File GrammarError) → IfOk result (λ f. AreRead w most n (statement_parts_of p bytes ts) f.statements) → IfOk result (λ f. TokensSpell p bytes ts f)
-  spelled_at bytes ts (Ok f) d = all_read (statement_parts_of p bytes ts) f.statements d
-  spelled_at bytes ts (Err e) d = tt
-
-  pub cause_at : (bytes : List ℕ) (ts : List Token) (result : Result File GrammarError) → IfErr result (λ e. Explains w most n (statement_parts_of p bytes ts) e) → IfErr result (λ e. IsCause p bytes ts e)
-  cause_at bytes ts (Ok f) d = tt
-  cause_at bytes ts (Err (error.Syntax k)) d = first_fault (statement_parts_of p bytes ts) k d
-  cause_at bytes ts (Err error.Memory) d = tt

@@ -10,8 +10,6 @@ ghost use Rattle.nxf_tree.specs.declared.tree.File.{File};
 ghost use Rattle.nxf_tree.specs.declared.tree.Statement.{Statement};
 ghost use Rattle.syntax_definitions.specs.steps.ReadStatements.{read_statement};
 ghost use Rattle.syntax_definitions.specs.steps.ReadFiles as spec;
-ghost use Rattle.syntax_definitions.specs.Files.{AreRead, statement_parts};
-ghost use Rattle.syntax_definitions.specs.steps.ReadFiles.{Explains};
 ghost use Rattle.syntax_definitions.specs.Levels.{file_levels};
 ghost use Rattle.nxf_tree.specs.Profiles as profiles;
 ghost use Rattle.nxf_tree.specs.FileDepth.{file_depth};
@@ -52,15 +50,15 @@ fn part(
     tokens: &[Token],
     profile: Profile,
     number: u32,
-    with_includes: bool,
-    levels: usize,
-    most: usize,
 ) -> Result<Statement, GrammarError>
     requires { All (IsSpan (length bytes.now)) tokens.now }
-    ensures { spec.AnswersPart (spec.whole (read_statement with_includes most levels (input.input_of profile bytes.now tokens.now))) number result }
+    ensures { let one = read_statement (profiles.has_includes profile) (profiles.most_arguments profile) (profiles.levels_of profile) in
+        spec.AnswersPart (spec.whole (one (input.input_of profile bytes.now tokens.now))) number result }
 {
+    let levels = levels_of(profile);
+    let most = most_arguments(profile);
     let mut cursor = Cursor::new(profile, bytes, tokens);
-    match statement(alloc, &mut cursor, with_includes, levels, most) {
+    match statement(alloc, &mut cursor, has_includes(profile), levels, most) {
         Ok(found) if cursor.len() == 0 => Ok(found),
         Ok(_) => Err(GrammarError::Syntax(number)),
         Err(GrammarError::Syntax(_)) => Err(GrammarError::Syntax(number)),
@@ -73,13 +71,11 @@ fn parts(
     bytes: &[u8],
     tokens: &[Token],
     profile: Profile,
-    with_includes: bool,
-    levels: usize,
-    most: usize,
 ) -> Result<List<Statement>, GrammarError>
     requires within { All (IsSpan (length bytes.now)) tokens.now }
     requires few { length tokens.now < 2 ^ 32 }
-    ensures { spec.Answers (spec.read_parts (read_statement with_includes most levels) (statement_parts (input.input_of profile bytes.now tokens.now)) 1 []) result }
+    ensures { let one = read_statement (profiles.has_includes profile) (profiles.most_arguments profile) (profiles.levels_of profile) in
+        spec.Answers (spec.read_parts one (statement_parts_of profile bytes.now tokens.now) 1 []) result }
 {
     let mut found = List::new(alloc);
     let mut rest = tokens;
@@ -87,20 +83,7 @@ fn parts(
     while rest.len() > 0 {
         number += 1;
         let (first, others) = rest.split_at(first_len(profile, bytes, rest));
-        let statement = match part(
-            alloc,
-            bytes,
-            first,
-            profile,
-            number,
-            with_includes,
-            levels,
-            most,
-        ) {
-            Ok(statement) => statement,
-            Err(e) => return Err(e),
-        };
-        push(&mut found, statement)?;
+        push(&mut found, part(alloc, bytes, first, profile, number)?)?;
         rest = others;
     }
     Ok(found)
@@ -135,33 +118,20 @@ fn has_includes(profile: Profile) -> bool
     }
 }
 
-/// The file that the tokens spell within the limits, or the number of the first statement that no rule reads.
-fn read_within(
+/// The file that the tokens spell, or the number of the first statement that no rule reads.
+fn read_lexed(
     alloc: Global,
     bytes: &[u8],
     tokens: &Tokens,
     profile: Profile,
-    with_includes: bool,
-    levels: usize,
-    most: usize,
 ) -> Result<File, GrammarError>
     requires lexed { Lexes bytes.now tokens.now }
-    ensures read { IfOk result (λ f. AreRead with_includes most levels (statement_parts_of profile bytes.now tokens.now) f.statements) }
-    ensures refused { IfErr result (λ e. Explains with_includes most levels (statement_parts_of profile bytes.now tokens.now) e) }
+    ensures read { IfOk result (λ f. TokensSpell profile bytes.now tokens.now f) }
+    ensures refused { IfErr result (λ e. IsCause profile bytes.now tokens.now e) }
 {
     spans_in_order();
-    match parts(
-        alloc,
-        bytes,
-        tokens.as_slice(),
-        profile,
-        with_includes,
-        levels,
-        most,
-    ) {
-        Ok(statements) => Ok(File { statements }),
-        Err(e) => Err(e),
-    }
+    let statements = parts(alloc, bytes, tokens.as_slice(), profile)?;
+    Ok(File { statements })
 }
 
 /// The one file that the tokens of the bytes spell in the profile. Where they spell none, it answers
@@ -184,8 +154,5 @@ pub fn read_file(
     ensures read_exactly { (f : File) → Spells profile bytes.now f → IsUnlessMemory result (Ok f) }
     ensures refused_exactly { (k : ℕ) → IsFirstFault profile bytes.now tokens.now k → IsUnlessMemory result (Err (GrammarError.Syntax k)) }
 {
-    let levels = levels_of(profile);
-    let most = most_arguments(profile);
-    let with_includes = has_includes(profile);
-    read_within(alloc, bytes, tokens, profile, with_includes, levels, most)
+    read_lexed(alloc, bytes, tokens, profile)
 }

@@ -10,7 +10,7 @@ use crate::gather_error::deep;
 use crate::reading::enter;
 use crate::selection::{add, add_selected};
 use crate::{GatherError, Roots};
-use nxf_base::{Library, List, Memory, Text};
+use nxf_base::{Library, List, Text};
 use nxf_tree::{File, Statement};
 use std::alloc::Global;
 use syntax_definitions::Visited;
@@ -43,12 +43,10 @@ pub fn gather_from<L: Library>(
     ensures read_fault { result ≡ Err GatherError.ReadFault → SomeFaultRose (map L.shelf libraries.old) (map L.shelf libraries.new) }
     ensures keeps { KeepEach (map L.shelf libraries.old) (map L.shelf libraries.new) }
 {
-    match visit(alloc, libraries, name, LEVELS, 0) {
-        Ok(whole) => Ok(File {
-            statements: whole.statements,
-        }),
-        Err(error) => Err(error),
-    }
+    let whole = visit(alloc, libraries, name, LEVELS, 0)?;
+    Ok(File {
+        statements: whole.statements,
+    })
 }
 
 /// A file and all that it includes, where it may stand at so many levels, and files of this length were loaded before.
@@ -70,24 +68,15 @@ fn visit<L: Library>(
     if levels == 0 {
         return Err(deep(alloc, name));
     }
-    let file = match enter(alloc, libraries, name, sum) {
-        Ok(file) => file,
-        Err(error) => return Err(error),
-    };
+    let file = enter(alloc, libraries, name, sum)?;
     let mut sum = file.sum;
     let mut statements = List::new(alloc);
     for statement in file.statements.into_vec() {
         match statement {
             Statement::Include { file, names } => {
-                let part = match visit(alloc, libraries, &file, levels - 1, sum) {
-                    Ok(part) => part,
-                    Err(error) => return Err(error),
-                };
+                let part = visit(alloc, libraries, &file, levels - 1, sum)?;
                 sum = part.sum;
-                match add_selected(alloc, &mut statements, &file, &names, part.statements) {
-                    Ok(()) => {}
-                    Err(error) => return Err(error),
-                }
+                add_selected(alloc, &mut statements, &file, &names, part.statements)?;
             }
             Statement::Annotated { name, role, body } => {
                 match add(&mut statements, Statement::Annotated { name, role, body }) {

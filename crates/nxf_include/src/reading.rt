@@ -33,10 +33,8 @@ pub fn enter<L: Library>(
     ensures read_fault { result ≡ Err GatherError.ReadFault → SomeFaultRose (map L.shelf libraries.old) (map L.shelf libraries.new) }
     ensures keeps { KeepEach (map L.shelf libraries.old) (map L.shelf libraries.new) }
 {
-    match load_one_from(alloc, libraries, name) {
-        Ok(bytes) => read_counted(alloc, name, sum, &bytes),
-        Err(error) => Err(error),
-    }
+    let bytes = load_one_from(alloc, libraries, name)?;
+    read_counted(alloc, name, sum, &bytes)
 }
 
 /// The statements of these bytes, which are those of the file, with their length added to the sum.
@@ -51,10 +49,8 @@ fn read_counted(alloc: Global, name: &Text, sum: u64, bytes: &[u8]) -> Result<Vi
     if sum > SUM_LIMIT {
         return Err(GatherError::TooMuch);
     }
-    match read(alloc, name, bytes) {
-        Ok(statements) => Ok(Visited { statements, sum }),
-        Err(error) => Err(error),
-    }
+    let statements = read(alloc, name, bytes)?;
+    Ok(Visited { statements, sum })
 }
 
 /// The statements of these bytes, which are those of the file.

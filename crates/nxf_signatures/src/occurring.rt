@@ -161,10 +161,8 @@ impl Occurring {
         match term {
             Term::Var(_) => Ok(()),
             Term::App(name, terms) => {
-                match self.note_use(alloc, declarations, name, terms.len(), true) {
-                    Ok(()) => self.note_terms(alloc, declarations, terms),
-                    Err(Memory) => Err(Memory),
-                }
+                self.note_use(alloc, declarations, name, terms.len(), true)?;
+                self.note_terms(alloc, declarations, terms)
             }
         }
     }
@@ -193,10 +191,8 @@ impl Occurring {
     ) -> Result<(), Memory>
         ensures { OnOk result (seen_in self.new ≡ and_occurrences (uses_in declarations.now.symbols.entries) (seen_in self.old) (occurrences (Formula.Atom name.now terms.now))) }
     {
-        match self.note_use(alloc, declarations, name, terms.len(), false) {
-            Ok(()) => self.note_terms(alloc, declarations, terms),
-            Err(Memory) => Err(Memory),
-        }
+        self.note_use(alloc, declarations, name, terms.len(), false)?;
+        self.note_terms(alloc, declarations, terms)
     }
 
     fn note_sides(
@@ -208,10 +204,8 @@ impl Occurring {
     ) -> Result<(), Memory>
         ensures { OnOk result (seen_in self.new ≡ and_occurrences (uses_in declarations.now.symbols.entries) (seen_in self.old) (occurrences (Formula.Same left.now right.now))) }
     {
-        match self.note_term(alloc, declarations, left.get()) {
-            Ok(()) => self.note_term(alloc, declarations, right.get()),
-            Err(Memory) => Err(Memory),
-        }
+        self.note_term(alloc, declarations, left.get())?;
+        self.note_term(alloc, declarations, right.get())
     }
 
     #[cycle(note_formula)]
@@ -233,19 +227,17 @@ impl Occurring {
             Formula::And(parts) => self.note_formulas(alloc, declarations, parts),
             Formula::Or(parts) => self.note_formulas(alloc, declarations, parts),
             Formula::Pair(_, left, right) => {
-                match self.note_formula(alloc, declarations, left.get()) {
-                    Ok(()) => self.note_formula(alloc, declarations, right.get()),
-                    Err(Memory) => Err(Memory),
-                }
+                self.note_formula(alloc, declarations, left.get())?;
+                self.note_formula(alloc, declarations, right.get())
             }
             Formula::Quant(_, _, sort, body) => {
                 self.note_sort(sort);
                 self.note_formula(alloc, declarations, body.get())
             }
-            Formula::Modal(_, index, body) => match self.note_index(alloc, index) {
-                Ok(()) => self.note_formula(alloc, declarations, body.get()),
-                Err(Memory) => Err(Memory),
-            },
+            Formula::Modal(_, index, body) => {
+                self.note_index(alloc, index)?;
+                self.note_formula(alloc, declarations, body.get())
+            }
             Formula::Distinct(terms) => self.note_terms(alloc, declarations, terms),
         }
     }

@@ -1,4 +1,5 @@
-use Rattle.std.proofs.Common.{◌-◌, ◌∙◌, ap, sym, subst, arith, map, [], ◌∷◌}
+use Rattle.std.proofs.Common.{◌-◌, ◌∙◌, ap, sym, subst, arith, map, [], ◌∷◌, rules}
+use Rattle.std.proofs.lemmas.Grind.{common_steps}
 use Rattle.std.specs.Vec.Iter.{into_iter_items}
 use Rattle.nxf_tree.specs.Weight.{statement_list_weight}
 use Rattle.syntax_definitions.specs.Gathered.{Visits}
@@ -17,78 +18,83 @@ returns-then-levels-eq0-clause-answers g t c =
 pub returns-then-levels-eq0-clause-keeps : goal.returns-then-levels-eq0-clause-keeps
 returns-then-levels-eq0-clause-keeps g t c = Keeps-same _
 
-pub returns-in-Err-clause-answers : goal.returns-in-Err-clause-answers
-returns-in-Err-clause-answers g t c =
-    begins_not (files_of (map g.L.Library.shelf c.args.libraries.now)) c.args.levels (c.args.levels - 1) c.args.sum c.args.name.now c.in-Err.error (omega (arith, c.if-levels-eq0.false)) c.in-Err.ensures.answers
+pub returns-in_err-file-clause-answers : goal.returns-in_err-file-clause-answers
+returns-in_err-file-clause-answers g t c =
+    let h = begins_not (files_of (map g.L.Library.shelf c.args.libraries.now)) c.args.levels (c.args.levels - 1) c.args.sum c.args.name.now c.in_err-file.field-0.0 (omega (arith, c.if-levels-eq0.false)) c.in_err-file.ensures.answers in
+    first_of (search rules, grind (arith, common_steps))
 
 pub loop-statement-init : goal.loop-statement-init
 loop-statement-init g t c =
     let all = c.into_iter-statement-iterator.ensures.into_iter_gives.0 ∙ c.into_vec-statement-items.ensures in (
       tt,
       tt,
-      begins (files_of (map g.L.Library.shelf c.args.libraries.now)) c.args.levels (c.args.levels - 1) c.args.sum c.args.name.now c.in-Ok.file c.new-statements.result _ (omega (arith, c.if-levels-eq0.false)) c.new-statements.ensures all c.in-Ok.ensures.answers,
-      c.in-Ok.ensures.keeps,
+      begins (files_of (map g.L.Library.shelf c.args.libraries.now)) c.args.levels (c.args.levels - 1) c.args.sum c.args.name.now c.in_ok-file.file c.new-statements.result _ (omega (arith, c.if-levels-eq0.false)) c.new-statements.ensures all c.in_ok-file.ensures.answers,
+      c.in_ok-file.ensures.keeps,
       subst AreFine (sym c.new-statements.ensures) tt,
-      subst AreReadStatements (sym all) c.in-Ok.ensures.read,
-      omega (arith, c.in-Ok.ensures.counts.1, ap statement_list_weight c.new-statements.ensures, ap statement_list_weight all),
-      c.in-Ok.ensures.counts.0,
+      subst AreReadStatements (sym all) c.in_ok-file.ensures.read,
+      omega (arith, c.in_ok-file.ensures.counts.1, ap statement_list_weight c.new-statements.ensures, ap statement_list_weight all),
+      c.in_ok-file.ensures.counts.0,
     )
 
-pub returns-in-Err-visit-clause-answers : goal.returns-in-Err-visit-clause-answers
-returns-in-Err-visit-clause-answers g t c =
-    refuses_included _ (c.args.levels - 1) c.loop-statement.statements c.loop-statement.sum _ _ _ _ (files_of (map g.L.Library.shelf c.args.libraries.now)) c.in-Err-visit.error c.loop-statement.invariant.2
+pub returns-in_err-part-in-Include-clause-answers : goal.returns-in_err-part-in-Include-clause-answers
+returns-in_err-part-in-Include-clause-answers g t c =
+    let h = refuses_included _ (c.args.levels - 1) c.loop-statement.statements c.loop-statement.sum _ _ _ _ (files_of (map g.L.Library.shelf c.args.libraries.now)) c.in_err-part-in-Include.field-0.0 c.loop-statement.invariant.2
     (c.in-Some.ensures.steps.0 ∙ ap (λ s. s ∷ into_iter_items c.next.new.self) c.in-Include.is)
-    (met_first _ _ (λ files. Visits files (c.args.levels - 1) c.loop-statement.sum c.in-Include.file) _ c.loop-statement.invariant.3 c.in-Err-visit.ensures.answers)
+    (met_first _ _ (λ files. Visits files (c.args.levels - 1) c.loop-statement.sum c.in-Include.file) _ c.loop-statement.invariant.3 c.in_err-part-in-Include.ensures.answers) in
+    first_of (search rules, grind (arith, common_steps))
 
-pub returns-in-Err-visit-clause-no_file : goal.returns-in-Err-visit-clause-no_file
-returns-in-Err-visit-clause-no_file g t c missing is = misses_after _ _ _ c.loop-statement.invariant.3 (c.in-Err-visit.ensures.no_file missing is)
+pub returns-in_err-part-in-Include-clause-no_file : goal.returns-in_err-part-in-Include-clause-no_file
+returns-in_err-part-in-Include-clause-no_file g t c missing is =
+    misses_after _ _ _ c.loop-statement.invariant.3 (c.in_err-part-in-Include.ensures.no_file missing (grind (arith, common_steps)))
 
-pub returns-in-Err-visit-clause-read_fault : goal.returns-in-Err-visit-clause-read_fault
-returns-in-Err-visit-clause-read_fault g t c is = fault_after _ _ _ c.loop-statement.invariant.3 (c.in-Err-visit.ensures.read_fault is)
+pub returns-in_err-part-in-Include-clause-read_fault : goal.returns-in_err-part-in-Include-clause-read_fault
+returns-in_err-part-in-Include-clause-read_fault g t c is =
+    fault_after _ _ _ c.loop-statement.invariant.3 (c.in_err-part-in-Include.ensures.read_fault (grind (arith, common_steps)))
 
-pub returns-in-Err-visit-clause-keeps : goal.returns-in-Err-visit-clause-keeps
-returns-in-Err-visit-clause-keeps g t c = Keeps-after _ _ _ c.loop-statement.invariant.3 c.in-Err-visit.ensures.keeps
+pub returns-in_err-part-in-Include-clause-keeps : goal.returns-in_err-part-in-Include-clause-keeps
+returns-in_err-part-in-Include-clause-keeps g t c = Keeps-after _ _ _ c.loop-statement.invariant.3 c.in_err-part-in-Include.ensures.keeps
 
-pub returns-in-Err-add_selected-clause-answers : goal.returns-in-Err-add_selected-clause-answers
-returns-in-Err-add_selected-clause-answers g t c =
-    refuses_selected _ (c.args.levels - 1) c.loop-statement.statements c.loop-statement.sum _ _ _ _ (files_of (map g.L.Library.shelf c.args.libraries.now)) c.in-Ok-visit.part c.in-Err-add_selected.error c.loop-statement.invariant.2
+pub returns-in_err-add_selected-in-Include-clause-answers : goal.returns-in_err-add_selected-in-Include-clause-answers
+returns-in_err-add_selected-in-Include-clause-answers g t c =
+    let h = refuses_selected _ (c.args.levels - 1) c.loop-statement.statements c.loop-statement.sum _ _ _ _ (files_of (map g.L.Library.shelf c.args.libraries.now)) c.in_ok-part-in-Include.part c.in_err-add_selected-in-Include.field-0.0 c.loop-statement.invariant.2
     (c.in-Some.ensures.steps.0 ∙ ap (λ s. s ∷ into_iter_items c.next.new.self) c.in-Include.is)
-    (met_first _ _ (λ files. Visits files (c.args.levels - 1) c.loop-statement.sum c.in-Include.file) _ c.loop-statement.invariant.3 c.in-Ok-visit.ensures.answers)
-    c.in-Err-add_selected.ensures
+    (met_first _ _ (λ files. Visits files (c.args.levels - 1) c.loop-statement.sum c.in-Include.file) _ c.loop-statement.invariant.3 c.in_ok-part-in-Include.ensures.answers)
+    c.in_err-add_selected-in-Include.ensures in
+    first_of (search rules, grind (arith, common_steps))
 
-pub returns-in-Err-add_selected-clause-keeps : goal.returns-in-Err-add_selected-clause-keeps
-returns-in-Err-add_selected-clause-keeps g t c = Keeps-after _ _ _ c.loop-statement.invariant.3 c.in-Ok-visit.ensures.keeps
+pub returns-in_err-add_selected-in-Include-clause-keeps : goal.returns-in_err-add_selected-in-Include-clause-keeps
+returns-in_err-add_selected-in-Include-clause-keeps g t c = Keeps-after _ _ _ c.loop-statement.invariant.3 c.in_ok-part-in-Include.ensures.keeps
 
-pub loop-statement-preserved-in-Ok-add_selected : goal.loop-statement-preserved-in-Ok-add_selected
-loop-statement-preserved-in-Ok-add_selected g t c =
-    let kept = c.in-Ok-add_selected.ensures in
+pub loop-statement-preserved-in_ok-add_selected-in-Include : goal.loop-statement-preserved-in_ok-add_selected-in-Include
+loop-statement-preserved-in_ok-add_selected-in-Include g t c =
+    let kept = c.in_ok-add_selected-in-Include.ensures in
     let rest = into_iter_items c.next.new.self in
     let next = c.in-Some.ensures.steps.0 ∙ ap (λ s. s ∷ rest) c.in-Include.is in (
       tt,
       tt,
-      adds_included _ (c.args.levels - 1) c.loop-statement.statements c.loop-statement.sum _ _ _ _ (files_of (map g.L.Library.shelf c.args.libraries.now)) c.in-Ok-visit.part kept.0 _ c.loop-statement.invariant.2
-          next (met_first _ _ (λ files. Visits files (c.args.levels - 1) c.loop-statement.sum c.in-Include.file) _ c.loop-statement.invariant.3 c.in-Ok-visit.ensures.answers) kept.1 kept.2,
-      Keeps-after _ _ _ c.loop-statement.invariant.3 c.in-Ok-visit.ensures.keeps,
-      included_fine _ _ c.in-Ok-visit.part.statements c.loop-statement.statements _ kept.0 kept.1 kept.2 c.loop-statement.invariant.4 c.in-Ok-visit.ensures.fine,
+      adds_included _ (c.args.levels - 1) c.loop-statement.statements c.loop-statement.sum _ _ _ _ (files_of (map g.L.Library.shelf c.args.libraries.now)) c.in_ok-part-in-Include.part kept.0 _ c.loop-statement.invariant.2
+          next (met_first _ _ (λ files. Visits files (c.args.levels - 1) c.loop-statement.sum c.in-Include.file) _ c.loop-statement.invariant.3 c.in_ok-part-in-Include.ensures.answers) kept.1 kept.2,
+      Keeps-after _ _ _ c.loop-statement.invariant.3 c.in_ok-part-in-Include.ensures.keeps,
+      included_fine _ _ c.in_ok-part-in-Include.part.statements c.loop-statement.statements _ kept.0 kept.1 kept.2 c.loop-statement.invariant.4 c.in_ok-part-in-Include.ensures.fine,
       rest_read _ rest _ next c.loop-statement.invariant.5,
-      included_weight _ _ c.args.sum c.loop-statement.sum c.in-Ok-visit.part.sum c.in-Ok-visit.part.statements c.loop-statement.statements _ kept.0 _ rest _ kept.1 kept.2 next c.in-Ok-visit.ensures.counts.1 c.loop-statement.invariant.6,
-      c.in-Ok-visit.ensures.counts.0,
+      included_weight _ _ c.args.sum c.loop-statement.sum c.in_ok-part-in-Include.part.sum c.in_ok-part-in-Include.part.statements c.loop-statement.statements _ kept.0 _ rest _ kept.1 kept.2 next c.in_ok-part-in-Include.ensures.counts.1 c.loop-statement.invariant.6,
+      c.in_ok-part-in-Include.ensures.counts.0,
     )
 
-pub loop-statement-preserved-in-Ok-add_selected-2 : goal.loop-statement-preserved-in-Ok-add_selected-2
-loop-statement-preserved-in-Ok-add_selected-2 g t c =
-    let kept = c.in-Ok-add_selected.ensures in
+pub loop-statement-preserved-in_ok-add_selected-in-Include-2 : goal.loop-statement-preserved-in_ok-add_selected-in-Include-2
+loop-statement-preserved-in_ok-add_selected-in-Include-2 g t c =
+    let kept = c.in_ok-add_selected-in-Include.ensures in
     let rest = into_iter_items c.next.new.self in
     let next = c.in-Some.ensures.steps.0 ∙ ap (λ s. s ∷ rest) c.in-Include.is in (
       tt,
       tt,
-      adds_included _ (c.args.levels - 1) c.loop-statement.statements c.loop-statement.sum _ _ _ _ (files_of (map g.L.Library.shelf c.args.libraries.now)) c.in-Ok-visit.part kept.0 _ c.loop-statement.invariant.2
-          next (met_first _ _ (λ files. Visits files (c.args.levels - 1) c.loop-statement.sum c.in-Include.file) _ c.loop-statement.invariant.3 c.in-Ok-visit.ensures.answers) kept.1 kept.2,
-      Keeps-after _ _ _ c.loop-statement.invariant.3 c.in-Ok-visit.ensures.keeps,
-      included_fine _ _ c.in-Ok-visit.part.statements c.loop-statement.statements _ kept.0 kept.1 kept.2 c.loop-statement.invariant.4 c.in-Ok-visit.ensures.fine,
+      adds_included _ (c.args.levels - 1) c.loop-statement.statements c.loop-statement.sum _ _ _ _ (files_of (map g.L.Library.shelf c.args.libraries.now)) c.in_ok-part-in-Include.part kept.0 _ c.loop-statement.invariant.2
+          next (met_first _ _ (λ files. Visits files (c.args.levels - 1) c.loop-statement.sum c.in-Include.file) _ c.loop-statement.invariant.3 c.in_ok-part-in-Include.ensures.answers) kept.1 kept.2,
+      Keeps-after _ _ _ c.loop-statement.invariant.3 c.in_ok-part-in-Include.ensures.keeps,
+      included_fine _ _ c.in_ok-part-in-Include.part.statements c.loop-statement.statements _ kept.0 kept.1 kept.2 c.loop-statement.invariant.4 c.in_ok-part-in-Include.ensures.fine,
       rest_read _ rest _ next c.loop-statement.invariant.5,
-      included_weight _ _ c.args.sum c.loop-statement.sum c.in-Ok-visit.part.sum c.in-Ok-visit.part.statements c.loop-statement.statements _ kept.0 _ rest _ kept.1 kept.2 next c.in-Ok-visit.ensures.counts.1 c.loop-statement.invariant.6,
-      c.in-Ok-visit.ensures.counts.0,
+      included_weight _ _ c.args.sum c.loop-statement.sum c.in_ok-part-in-Include.part.sum c.in_ok-part-in-Include.part.statements c.loop-statement.statements _ kept.0 _ rest _ kept.1 kept.2 next c.in_ok-part-in-Include.ensures.counts.1 c.loop-statement.invariant.6,
+      c.in_ok-part-in-Include.ensures.counts.0,
     )
 
 pub loop-statement-preserved : goal.loop-statement-preserved
@@ -97,11 +103,11 @@ loop-statement-preserved g t c =
     let next = c.in-Some.ensures.steps.0 ∙ ap (λ s. s ∷ rest) c.in-Annotated.is in (
       tt,
       tt,
-      adds_annotated _ (c.args.levels - 1) c.loop-statement.statements c.loop-statement.sum _ _ (files_of (map g.L.Library.shelf c.args.libraries.now)) _ _ _ _ c.loop-statement.invariant.2 next c.in-Ok-add.ensures,
+      adds_annotated _ (c.args.levels - 1) c.loop-statement.statements c.loop-statement.sum _ _ (files_of (map g.L.Library.shelf c.args.libraries.now)) _ _ _ _ c.loop-statement.invariant.2 next c.in-Ok.ensures,
       c.loop-statement.invariant.3,
-      annotated_fine c.loop-statement.statements _ _ rest _ _ _ c.in-Ok-add.ensures next c.loop-statement.invariant.4 c.loop-statement.invariant.5,
+      annotated_fine c.loop-statement.statements _ _ rest _ _ _ c.in-Ok.ensures next c.loop-statement.invariant.4 c.loop-statement.invariant.5,
       rest_read _ rest _ next c.loop-statement.invariant.5,
-      annotated_weight c.args.sum c.loop-statement.sum c.loop-statement.statements _ _ rest _ c.in-Ok-add.ensures next c.loop-statement.invariant.6,
+      annotated_weight c.args.sum c.loop-statement.sum c.loop-statement.statements _ _ rest _ c.in-Ok.ensures next c.loop-statement.invariant.6,
       c.loop-statement.invariant.7,
     )
 

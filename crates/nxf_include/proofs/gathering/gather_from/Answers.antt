@@ -1,14 +1,17 @@
-use Rattle.std.proofs.Common.{arith, map}
+use Rattle.std.proofs.Common.{arith, map, rules}
+use Rattle.std.proofs.lemmas.Grind.{common_steps}
 use Rattle.nxf_include.specs.Roots.{files_of}
 use Rattle.nxf_include.proofs.Bringing.{gathers, gathers_not}
 use Rattle.nxf_include.proofs.Promising.{whole_fine}
 use Rattle.nxf_include.proofs.gathering.gather_from.Goals as goal
 
-pub returns-in-Ok-clause-answers : goal.returns-in-Ok-clause-answers
-returns-in-Ok-clause-answers g c = gathers (files_of (map g.L.Library.shelf c.args.libraries.now)) c.args.name.now c.in-Ok.whole c.in-Ok.ensures.answers
+pub returns-clause-answers : goal.returns-clause-answers
+returns-clause-answers g c = gathers (files_of (map g.L.Library.shelf c.args.libraries.now)) c.args.name.now c.in_ok-whole.whole c.in_ok-whole.ensures.answers
 
-pub returns-in-Ok-clause-fine : goal.returns-in-Ok-clause-fine
-returns-in-Ok-clause-fine g c = whole_fine c.in-Ok.whole.statements c.in-Ok.ensures.fine (omega (arith, c.in-Ok.ensures.counts.0, c.in-Ok.ensures.counts.1))
+pub returns-clause-fine : goal.returns-clause-fine
+returns-clause-fine g c = whole_fine c.in_ok-whole.whole.statements c.in_ok-whole.ensures.fine (omega (arith, c.in_ok-whole.ensures.counts.0, c.in_ok-whole.ensures.counts.1))
 
-pub returns-in-Err-clause-answers : goal.returns-in-Err-clause-answers
-returns-in-Err-clause-answers g c = gathers_not (files_of (map g.L.Library.shelf c.args.libraries.now)) c.args.name.now c.in-Err.error c.in-Err.ensures.answers
+pub returns-in_err-whole-clause-answers : goal.returns-in_err-whole-clause-answers
+returns-in_err-whole-clause-answers g c =
+    let h = gathers_not (files_of (map g.L.Library.shelf c.args.libraries.now)) c.args.name.now c.in_err-whole.field-0.0 c.in_err-whole.ensures.answers in
+    first_of (search rules, grind (arith, common_steps))

@@ -18,11 +18,11 @@ note_formula-returns-in-And t c = let is = ap occurrences c.in-And.is ∙ of_And
 pub note_formula-returns-in-Or : goal.note_formula-returns-in-Or
 note_formula-returns-in-Or t c = let is = ap occurrences c.in-Or.is ∙ of_Or c.in-Or.parts in rw is c.note_formulas-in-Or.ensures
 
-pub note_formula-returns-in-Ok : goal.note_formula-returns-in-Ok
-note_formula-returns-in-Ok t c =
-    let is : occurrences c.args.formula.now ≡ occurrences c.get-in-Pair.result.now ++ occurrences c.get-in-Ok.result.now =
-    ap occurrences (c.in-Pair.is ∙ Pair_is _ _ _) ∙ sym (λ i. occurrences (c.get-in-Pair.ensures i) ++ occurrences (c.get-in-Ok.ensures i)) in
-    rw (is, fold-append, ← c.in-Ok.ensures) c.note_formula-in-Ok.ensures
+pub note_formula-returns-in_ok-note_formula-in-Pair : goal.note_formula-returns-in_ok-note_formula-in-Pair
+note_formula-returns-in_ok-note_formula-in-Pair t c =
+    let is : occurrences c.args.formula.now ≡ occurrences c.get-in-Pair.result.now ++ occurrences c.get-in-Pair-2.result.now =
+    ap occurrences (c.in-Pair.is ∙ Pair_is _ _ _) ∙ sym (λ i. occurrences (c.get-in-Pair.ensures i) ++ occurrences (c.get-in-Pair-2.ensures i)) in
+    rw (is, fold-append, ← c.in_ok-note_formula-in-Pair.ensures) c.note_formula-in-Pair-2.ensures
 
 pub note_formula-returns-in-Quant : goal.note_formula-returns-in-Quant
 note_formula-returns-in-Quant t c =
@@ -31,12 +31,12 @@ note_formula-returns-in-Quant t c =
     let is = ap occurrences (c.in-Quant.is ∙ Quant_is _ _ _ _) ∙ ap (λ f. Occurrence.sort c.in-Quant.sort ∷ occurrences f) (sym c.get-in-Quant.ensures) in
     on_ok c.note_formula-in-Quant.result (λ h. h ∙ ap (λ s. and_occurrences us s body) (c.note_sort.ensures us) ∙ sym (ap (and_occurrences us (seen_in c.args.self.now)) is)) c.note_formula-in-Quant.ensures
 
-pub note_formula-returns-in-Ok-note_index : goal.note_formula-returns-in-Ok-note_index
-note_formula-returns-in-Ok-note_index t c =
+pub note_formula-returns-in_ok-note_index-in-Modal : goal.note_formula-returns-in_ok-note_index-in-Modal
+note_formula-returns-in_ok-note_index-in-Modal t c =
     let us = uses_in c.args.declarations.now.symbols.entries in
-    let body = occurrences c.get-in-Ok-note_index.result.now in
-    let is = ap occurrences (c.in-Modal.is ∙ Modal_is _ _ _) ∙ ap (λ f. Occurrence.index c.in-Modal.index ∷ occurrences f) (sym c.get-in-Ok-note_index.ensures) in
-    on_ok c.note_formula-in-Ok-note_index.result (λ h. h ∙ ap (λ s. and_occurrences us s body) (c.in-Ok-note_index.ensures us) ∙ sym (ap (and_occurrences us (seen_in c.args.self.now)) is)) c.note_formula-in-Ok-note_index.ensures
+    let body = occurrences c.get-in-Modal.result.now in
+    let is = ap occurrences (c.in-Modal.is ∙ Modal_is _ _ _) ∙ ap (λ f. Occurrence.index c.in-Modal.index ∷ occurrences f) (sym c.get-in-Modal.ensures) in
+    on_ok c.note_formula-in-Modal.result (λ h. h ∙ ap (λ s. and_occurrences us s body) (c.in_ok-note_index-in-Modal.ensures us) ∙ sym (ap (and_occurrences us (seen_in c.args.self.now)) is)) c.note_formula-in-Modal.ensures
 
 pub note_formula-returns-in-Distinct : goal.note_formula-returns-in-Distinct
 note_formula-returns-in-Distinct t c = let is = ap occurrences c.in-Distinct.is ∙ of_terms c.in-Distinct.terms in rw is c.note_terms.ensures

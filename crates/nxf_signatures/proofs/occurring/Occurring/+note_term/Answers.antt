@@ -6,9 +6,9 @@ use Rattle.nxf_signatures.specs.steps.Tables.{uses_in, seen_in, and_occurrences,
 use Rattle.nxf_signatures.proofs.Walks.{on_ok, of_App}
 use Rattle.nxf_signatures.proofs.occurring.Occurring.+note_term.Goals as goal
 
-pub note_term-returns-in-Ok : goal.note_term-returns-in-Ok
-note_term-returns-in-Ok t c =
+pub note_term-returns-in_ok-note_use-in-App : goal.note_term-returns-in_ok-note_use-in-App
+note_term-returns-in_ok-note_use-in-App t c =
     let us = uses_in c.args.declarations.now.symbols.entries in
     let rest = flat_map term_occurrences c.in-App.terms in
     let is = ap term_occurrences c.in-App.is ∙ of_App c.in-App.name c.in-App.terms ∙ ap (λ n. Occurrence.symbol (use_with c.in-App.name n (Some Individual)) ∷ rest) (sym c.len.ensures) in
-    on_ok c.note_terms.result (λ h. h ∙ ap (λ s. and_occurrences us s rest) c.in-Ok.ensures ∙ sym (ap (and_occurrences us (seen_in c.args.self.now)) is)) c.note_terms.ensures
+    on_ok c.note_terms.result (λ h. h ∙ ap (λ s. and_occurrences us s rest) c.in_ok-note_use-in-App.ensures ∙ sym (ap (and_occurrences us (seen_in c.args.self.now)) is)) c.note_terms.ensures

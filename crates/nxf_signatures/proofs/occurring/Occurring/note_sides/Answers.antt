@@ -4,14 +4,14 @@ use Rattle.nxf_signatures.specs.steps.Tables.{uses_in, seen_in, and_occurrence, 
 use Rattle.nxf_signatures.proofs.Walks.{on_ok, of_Same}
 use Rattle.nxf_signatures.proofs.occurring.Occurring.note_sides.Goals as goal
 
-pub returns-in-Ok : goal.returns-in-Ok
-returns-in-Ok c =
+pub returns : goal.returns
+returns c =
     let us = uses_in c.args.declarations.now.symbols.entries in
     let old = seen_in c.args.self.now in
     let left = c.get.result.now in
-    let right = c.get-in-Ok.result.now in
-    rw (← c.get.ensures, ← c.get-in-Ok.ensures)
-    (on_ok c.note_term-in-Ok.result
-    (λ h. h ∙ ap (λ s. and_occurrences us s (term_occurrences right)) c.in-Ok.ensures
+    let right = c.get-2.result.now in
+    rw (← c.get.ensures, ← c.get-2.ensures)
+    (on_ok c.note_term-2.result
+    (λ h. h ∙ ap (λ s. and_occurrences us s (term_occurrences right)) c.in_ok-note_term.ensures
     ∙ sym (ap (and_occurrences us old) (of_Same left right) ∙ fold-append (and_occurrence us) old (term_occurrences left) (term_occurrences right)))
-    c.note_term-in-Ok.ensures)
+    c.note_term-2.ensures)
