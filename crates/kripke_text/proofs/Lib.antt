@@ -6,3 +6,16 @@ pub mod RowPlaces
 pub mod Pages
 pub mod SubjectReads
 pub mod Objects
+pub mod Strips
+pub mod Bytes
+pub mod Numbers
+pub mod Matching
+pub mod Nexts
+pub mod ReadLines
+pub mod ReadLoop
+pub mod TakeLines
+pub mod Writes
+pub mod ReadTables
+pub mod ReadHeads
+pub mod ReadTexts
+pub mod ReadWhole

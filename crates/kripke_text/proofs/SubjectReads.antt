@@ -160,7 +160,7 @@ world_room sig view y row s b h = world_room_by (takes_world (symbol_at sig y)) 
 -- ---- every table
 
 -- a table has its number among the tables
-number_in : (sig : Signature) (view : KripkeTables) (subject : Subject) → IsKripke view → IsKripkeFor sig view → IsIn sig subject → number_of view subject < length view.tables
+pub number_in : (sig : Signature) (view : KripkeTables) (subject : Subject) → IsKripke view → IsKripkeFor sig view → IsIn sig subject → number_of view subject < length view.tables
 number_in sig view (Relation i) is for_sig h = omega (arith, is.symbols, numbers_end view.existence view.indexes view.first_symbol is.numbered, for_sig.indexes, h)
 number_in sig view (Existence s) is for_sig h =
     let has = has_table sig view s is for_sig h in

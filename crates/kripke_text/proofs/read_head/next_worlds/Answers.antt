@@ -1,0 +1,13 @@
+use Rattle.std.proofs.Common.{refl, subst}
+use Rattle.std.specs.Prelude.{◌<◌}
+use Rattle.kripke_text_definitions.specs.KripkeText.{worlds_statement}
+use Rattle.kripke_text.specs.steps.Reading.{Reads}
+use Rattle.kripke_text.proofs.Nexts.{next_refused}
+use Rattle.kripke_text.proofs.read_head.next_worlds.Goals as goal
+
+pub returns-in-None-clause-refused : goal.returns-in-None-clause-refused
+returns-in-None-clause-refused c = (
+  refl,
+  next_refused worlds_statement (λ n. 0 < n) c.args.statements.now c.take_next.new.self c.in-Some.matcher c.in-Some.ensures.some
+      (subst (λ found. Reads worlds_statement (λ n. 0 < n) c.in-Some.matcher found) c.in-None.is c.in_ok-worlds.ensures),
+)
