@@ -1,0 +1,4 @@
+pub mod FileConditions
+pub mod Fitting
+pub mod NumberedDepth
+pub mod NumberedMeaning
