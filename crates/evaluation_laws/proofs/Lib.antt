@@ -1,0 +1,12 @@
+pub mod Bounds
+pub mod DepthLemmas
+pub mod Evaluation
+pub mod FirstLemmas
+pub mod FitsLemmas
+pub mod Levels
+pub mod NodeLemmas
+pub mod Options
+pub mod PartsLemmas
+pub mod SatCases
+pub mod SymbolTypes
+pub mod WholeLemmas

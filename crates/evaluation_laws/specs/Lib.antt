@@ -1,0 +1,3 @@
+pub mod DepthLaw
+pub mod EvaluationLaws
+pub mod FaultLaws
