@@ -1,0 +1,5 @@
+pub mod FormulaCases
+pub mod JudgingLemmas
+pub mod RoomLemmas
+pub mod TermCases
+pub mod WalkLemmas

@@ -1,0 +1,65 @@
+//! Values of terms.
+ghost use Rattle.std.specs.Prelude.{◌≡◌, ℕ, ◌*◌, ◌<◌, ◌≤◌, length, map, take};
+ghost use Rattle.std.specs.List.{All};
+ghost use Rattle.formula_cells.specs.Stored.{IsArgument, IsTerm, term_at};
+ghost use Rattle.kripke_evaluation_definitions.specs.Fitting.{TermFits};
+ghost use Rattle.kripke_evaluation_definitions.specs.NumberedDepth.{term_depth, terms_depth};
+ghost use Rattle.kripke_evaluation_definitions.specs.NumberedMeaning.{node_value};
+
+use crate::here::Here;
+use formula_cells::Cell;
+use std::sync::ledger::Ledger;
+use structure_views::Steps;
+
+/// The value of a term, where the stack has the values of the enclosing quantifiers from the outside in. Each level of
+/// applications has room for a row of 1,000 values.
+#[cycle(value_at)]
+pub(crate) fn value_at<L: Ledger>(
+    here: Here<'_>,
+    at: usize,
+    stack: &[u32],
+    room: &mut [u32],
+    steps: &mut Steps<L>,
+) -> u32
+    requires term { IsTerm here.checked.now.stored at }
+    requires world_in { here.world < here.view.now.worlds }
+    requires fits { TermFits here.view.now here.world stack.now (term_at here.checked.now.stored at) }
+    requires room { 1000 * term_depth (term_at here.checked.now.stored at) ≤ length room.old }
+    ensures { result ≡ node_value here.entry.view.now here.entry.world stack.now (term_at here.entry.checked.now.stored at) }
+{
+    match here.checked.cell(at) {
+        Cell::Bound(level) => stack[*level as usize],
+        Cell::App(symbol, span) => {
+            let (row, rest) = room.split_at_mut(1000);
+            fill(here, at, here.checked.parts(*span), stack, row, rest, steps);
+            here.view
+                .value(*symbol, here.world, &row[..span.len], steps)
+        }
+        _ => unreachable!(),
+    }
+}
+
+/// Writes the values of the arguments of a cell to the front of a row.
+#[cycle(value_at)]
+pub(crate) fn fill<L: Ledger>(
+    here: Here<'_>,
+    at: usize,
+    terms: &[usize],
+    stack: &[u32],
+    row: &mut [u32],
+    room: &mut [u32],
+    steps: &mut Steps<L>,
+)
+    requires cell { at ≤ length here.checked.now.stored.cells }
+    requires terms { All (IsArgument here.checked.now.stored.cells at) terms.now }
+    requires world_in { here.world < here.view.now.worlds }
+    requires fits { All (λ n. TermFits here.view.now here.world stack.now (term_at here.checked.now.stored n)) terms.now }
+    requires few { length terms.now ≤ length row.old }
+    requires room { 1000 * terms_depth (map (term_at here.checked.now.stored) terms.now) ≤ length room.old }
+    ensures { let value = node_value here.entry.view.now here.entry.world stack.now in
+        take (length terms.now) row.new ≡ map (λ n. value (term_at here.entry.checked.now.stored n)) terms.now }
+{
+    for (i, term) in terms.iter().enumerate() {
+        row[i] = value_at(here, *term, stack, room, steps);
+    }
+}
