@@ -19,7 +19,7 @@ use Rattle.nxf_tree.specs.ClassicalSignature.{classical_signature_of, relation_e
 use Rattle.name_laws.specs.NameLaws.{HasDifferentClassicalNames}
 use Rattle.name_laws.proofs.NamesDiffer.{names-differ}
 use Rattle.name_laws.proofs.Types.{split}
-use Rattle.classical_syntax.proofs.Places.{in_range-below}
+use Rattle.classical_syntax.proofs.CallerLemmas.{in_range-below}
 use Rattle.classical_signature_laws.specs.ClassicalSignatures.{IsClassicalOf, GivesBelow, HasSorts, HasArguments, HasSortsLaw, HasArgumentsLaw, ClassicalNamesLaw}
 
 -- the table's arguments and values are of the first n sorts

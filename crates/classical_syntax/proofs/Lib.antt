@@ -1,3 +1,4 @@
+pub mod CallerLemmas
 pub mod Fronts
 pub mod Numerals
 pub mod Places

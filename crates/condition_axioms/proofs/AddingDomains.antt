@@ -5,7 +5,7 @@ use Rattle.nxf_tree.specs.declared.tree.Signature.{Signature}
 use Rattle.nxf_tree.specs.declared.tree.SortEntry.{SortEntry}
 use Rattle.nxf_tree.specs.Axioms.{someone_axiom, everyone_axiom, monotone_axioms, sort_axioms, domain_axioms_of}
 use Rattle.nxf_tree.specs.WellFormed.{HasDifferentNames}
-use Rattle.classical_syntax.proofs.Places.{is_constant-place}
+use Rattle.classical_syntax.proofs.CallerLemmas.{is_constant-place}
 use Rattle.condition_axioms.specs.steps.SortAxioms.{entry_axioms}
 
 domain_axioms_of-append : (sig : Signature) (xs ys : List SortEntry) → domain_axioms_of sig (xs ++ ys) ≡ domain_axioms_of sig xs ++ domain_axioms_of sig ys

@@ -8,7 +8,7 @@ use Rattle.nxf_tree.specs.Axioms.{result_axioms, term_axioms_of}
 use Rattle.nxf_tree.specs.Conditions.{argument_sorts, local_result}
 use Rattle.nxf_tree.specs.WellFormed.{IsWellFormed, has_sorts_in_range}
 use Rattle.name_laws.proofs.Types.{split}
-use Rattle.classical_syntax.proofs.Places.{is_flexible-place}
+use Rattle.classical_syntax.proofs.CallerLemmas.{is_flexible-place}
 use Rattle.condition_axioms.specs.steps.Listed.{IsListed}
 
 term_axioms_of-append : (sig : Signature) (xs ys : List SymbolEntry) → term_axioms_of sig (xs ++ ys) ≡ term_axioms_of sig xs ++ term_axioms_of sig ys

@@ -20,7 +20,7 @@ use Rattle.nxf_tree.specs.WellFormed.{IsWellFormed, has_sorts_in_range}
 use Rattle.fin_struct.specs.declared.condition.Condition.TheVariants.{Local}
 use Rattle.fin_struct.specs.FirstFault.{meets_condition, meets_term, meets_term_at, terms_from}
 use Rattle.structure_laws.proofs.FirstFaultLemmas.{first_failing, first-holds, first-fails, drop-read}
-use Rattle.classical_syntax.proofs.Places.{in_range-below, sort_at-place}
+use Rattle.classical_syntax.proofs.CallerLemmas.{in_range-below, sort_at-place}
 use Rattle.fin_struct.specs.Places.{InRange}
 use Rattle.fin_struct.specs.Cells.{bound_of}
 use Rattle.fin_struct.specs.RowLists.{IsFilled}
@@ -30,7 +30,7 @@ use Rattle.structure_laws.proofs.Counted.{all_same, all_pass}
 use Rattle.structure_laws.proofs.KripkeNames.{places-law}
 use Rattle.structure_laws.proofs.RowLaws.{cells-below}
 use Rattle.condition_axioms.specs.steps.Listed.{IsListed}
-use Rattle.condition_axioms.proofs.AddingTerms.{listed-at}
+use Rattle.condition_axioms.proofs.CallerLemmas.{listed-at}
 use Rattle.designation.specs.steps.RowTests.{rows_pass, value_exists_at, values_exist_in, HasFunction}
 
 -- a premise that no row changes goes in front

@@ -13,7 +13,7 @@ use Rattle.nxf_tree.specs.Conditions.{someone_exists, everyone_exists, stay, wer
 use Rattle.nxf_tree.specs.Kripke.{KripkeModel}
 use Rattle.nxf_tree.specs.Structures.{kripke_model}
 use Rattle.nxf_tree.specs.WellFormed.{HasDifferentNames}
-use Rattle.classical_syntax.proofs.Places.{sort_at-place}
+use Rattle.classical_syntax.proofs.CallerLemmas.{sort_at-place}
 use Rattle.fin_struct.specs.declared.condition.Condition.{Condition}
 use Rattle.fin_struct.specs.declared.condition.Condition.TheVariants.{Empty, Union, Monotone}
 use Rattle.fin_struct.specs.FirstFault.{goes_along, meets_condition, monotone_from, sort_conditions, domains_from}

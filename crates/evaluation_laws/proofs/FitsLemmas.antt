@@ -25,14 +25,13 @@ use Rattle.name_laws.proofs.Spelling.{true-false}
 use Rattle.name_laws.proofs.Types.{own_type, split}
 use Rattle.name_laws.proofs.SortedFormulas.{sort_of-App}
 use Rattle.name_laws.proofs.GoodSymbols.{parts-of-names}
-use Rattle.classical_syntax.proofs.Places.{sort_at-place}
+use Rattle.classical_syntax.proofs.CallerLemmas.{sort_at-place}
 use Rattle.fin_struct.specs.Places.{InRange}
 use Rattle.fin_struct.specs.Cells.{CellTable, bound_of, cell}
 use Rattle.fin_struct.specs.RowLists.{IsFilled}
 use Rattle.fin_struct.specs.KripkeTables.{KripkeTables, IsKripke, IsKripkeFor, symbol_number, symbol_table, symbol_row, takes_world_in, value_in}
 use Rattle.structure_laws.specs.KripkeLaws.{HasPlaces, ReadsByName}
-use Rattle.fin_struct.proofs.PlacesLemmas.{InRange-length, place_below}
-use Rattle.fin_struct.proofs.KripkeLemmas.{symbol_in}
+use Rattle.fin_struct.proofs.CallerLemmas.{InRange-length, place_below, symbol_in}
 use Rattle.structure_laws.proofs.KripkeNames.{names-law, places-law}
 use Rattle.numbered_definitions.specs.declared.node.NTerm.{NTerm, Bound, Row_of-NTerm, end_of-NTerm, more_of-NTerm}
 use Rattle.numbered_definitions.specs.declared.node.NTerm as numbered

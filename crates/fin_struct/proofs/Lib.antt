@@ -1,6 +1,8 @@
 pub mod BlankKripke
+pub mod CallerLemmas
 pub mod CellsLemmas
 pub mod CorrespondingLemmas
+pub mod ExistenceLemmas
 pub mod KripkeLemmas
 pub mod KripkeTableLemmas
 pub mod LimitsLemmas

@@ -1,5 +1,6 @@
 pub mod Cells
 pub mod Corresponding
+pub mod ExistenceLists
 pub mod FirstFault
 pub mod KripkeTables
 pub mod Limits

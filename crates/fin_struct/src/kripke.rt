@@ -10,6 +10,7 @@ ghost use Rattle.fin_struct.specs.Cells.{cell, bound_of};
 ghost use Rattle.fin_struct.specs.RowLists.{true_rows, listed, shapes_of, bit_of};
 ghost use Rattle.fin_struct.specs.StructureTables.{IsFor, classical_structure};
 ghost use Rattle.fin_struct.specs.Corresponding as meant;
+ghost use Rattle.fin_struct.specs.ExistenceLists.{listed_to_exist};
 ghost use Rattle.fin_struct.specs.KripkeTables.{kripke_structure, with_written, with_value, WrittenAlone, KripkeTables, IsKripke, IsKripkeFor, kripke_shapes, blank_kripke, others_of, relation_table, related_in, existence_number, existence_place, exists_in, symbol_number, symbol_table, symbol_row, value_in, predicate_in};
 
 use crate::grid::Grid;
@@ -172,7 +173,8 @@ impl Kripke {
         requires sort_in { sort < length self.now.existence }
         requires world_in { world < self.now.worlds }
         requires element_in { element < rows.size_at self.now.sizes sort }
-        ensures { result ≡ exists_in self.now sort world element }
+        ensures cell { result ≡ exists_in self.now sort world element }
+        ensures listed { result ≡ listed_to_exist self.now sort world element }
     {
         match self.existence[sort as usize] {
             None => true,

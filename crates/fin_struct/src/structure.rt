@@ -107,7 +107,8 @@ impl Structure {
 
     /// The value of `mk_actual`.
     pub fn actual(&self) -> u32
-        ensures { result ≡ self.now.actual }
+        ensures actual { result ≡ self.now.actual }
+        ensures below { result < rows.size_at self.now.sizes 0 }
     {
         self.actual
     }

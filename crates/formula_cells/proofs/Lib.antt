@@ -1,3 +1,4 @@
+pub mod CallerLemmas
 pub mod ExpressionLemmas
 pub mod GrowingLemmas
 pub mod PuttingLemmas

@@ -3,7 +3,7 @@ use Rattle.std.proofs.Common.{◌≡◌, ℕ, zero, suc, List, [], ◌∷◌, �
 use mathlib.Core.Logic.{inl, inr}
 use Rattle.nxf_base.specs.Files.{Files}
 use Rattle.tptp_lex.specs.declared.token.Token.{Token}
-use Rattle.tptp_lex.proofs.Pieces.{one_lexing, no_bad_place, one_bad_place}
+use Rattle.tptp_lex.proofs.CallerLemmas.{one_lexing, no_bad_place, one_bad_place}
 use Rattle.nxf_tree.specs.declared.profile.Profile.TheVariants.{Problem}
 use Rattle.nxf_tree.specs.declared.tree.File.{File}
 use Rattle.nxf_tree.specs.declared.tree.Statement.{Statement}

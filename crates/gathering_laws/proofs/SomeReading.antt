@@ -10,9 +10,7 @@ use Rattle.tptp_lex.specs.declared.token.Kind.TheVariants as kind
 use Rattle.tptp_lex.specs.declared.token.Lexeme.{Lexeme}
 use Rattle.tptp_lex.specs.declared.token.Lexeme.TheVariants as lexeme
 use Rattle.tptp_lex.specs.declared.token.Token.{Token}
-use Rattle.tptp_lex.proofs.Complete.{reaches}
-use Rattle.tptp_lex.proofs.Pieces.{none_there, IsSoFar, all_lexed, bad_place}
-use Rattle.tptp_lex.proofs.Sound.{sound}
+use Rattle.tptp_lex.proofs.CallerLemmas.{reaches, none_there, IsSoFar, all_lexed, bad_place, sound}
 use Rattle.nxf_terminals.specs.Input.{Input}
 use Rattle.nxf_tree.specs.declared.profile.Profile.{Profile}
 use Rattle.nxf_tree.specs.declared.tree.File.{File}

@@ -20,7 +20,7 @@ use Rattle.syntax_definitions.specs.Formulas.{IsTerm, AreTerms, IsSort, IsBoundS
 use Rattle.syntax_definitions.specs.Formulas as g
 use Rattle.syntax_definitions.specs.steps.ReadFormulas.{terms_from, arguments, many, term_by, term, argument, units_from, units, chain, whole, group, sort_name, bound_sort, index_text, long_index, modal_of, scope, comparison, after_name, unit_by, unit, quantified, inner, unit_from, formula}
 use Rattle.syntax_definitions.specs.steps.ReadFormulas as p
-use Rattle.syntax_definitions.proofs.Refusals.{unit_is}
+use Rattle.syntax_definitions.proofs.CallerLemmas.{unit_is}
 
 -- ---- terms
 

@@ -4,7 +4,7 @@ use Rattle.nxf_terminals.specs.declared.sign.Sign.{Sign}
 use Rattle.nxf_terminals.specs.declared.sign.Sign.TheVariants as sign
 use Rattle.nxf_terminals.specs.Signs.{same_sign}
 use Rattle.nxf_terminals.specs.Input.{Spelling, Input, Outcome, kind, sees}
-use Rattle.nxf_terminals.proofs.Tools.{moved}
+use Rattle.nxf_terminals.proofs.CallerLemmas.{moved}
 use Rattle.syntax_definitions.specs.Annotations.{Open, advance, Balances, balanced, token, IsAnnotation, is_last, continued, balance, annotation}
 
 -- a bracket that closes the statement closes no other

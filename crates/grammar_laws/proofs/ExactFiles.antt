@@ -2,7 +2,7 @@
 use Rattle.std.proofs.Common.{◌≡◌, ℕ, suc, ◌+◌, ◌≤◌, ◌<◌, Bool, true, false, List, [], ◌∷◌, ◌++◌, length, take, drop, Option, Some, None, Result, Ok, Err, ◌≢◌, refl, sym, ap, subst, ◌∙◌, append_assoc, arith}
 use Rattle.std.specs.Prelude.{IfOk, IfErr}
 use Rattle.tptp_lex.specs.Lexing.{Lexes}
-use Rattle.tptp_lex.proofs.Pieces.{one_lexing}
+use Rattle.tptp_lex.proofs.CallerLemmas.{one_lexing}
 use Rattle.nxf_tree.specs.declared.tree.File.{File}
 use Rattle.syntax_definitions.specs.Spells.{TokensSpell, IsFirstFault, Spells, IsCause}
 use Rattle.std.proofs.lemmas.List.{append-nil, take-map, drop-map}

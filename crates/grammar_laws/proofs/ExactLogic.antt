@@ -5,7 +5,7 @@ use Rattle.nxf_terminals.specs.declared.sign.Sign.TheVariants as sign
 use Rattle.tptp_lex.specs.Texts.{token_text}
 use Rattle.nxf_terminals.specs.Signs.{same_sign, is_dollar}
 use Rattle.nxf_terminals.specs.Input.{Spelling, Input, Parser, and_then, kind, sees, expect, refuse, pure}
-use Rattle.nxf_terminals.proofs.Tools.{bound, moved, expected, with_bound, with_expected, end_is_no_hash, end_is_no_right_bracket, end_is_no_left_bracket, end_is_no_is, end_is_no_boxes}
+use Rattle.nxf_terminals.proofs.CallerLemmas.{bound, moved, expected, with_bound, with_expected, end_is_no_hash, end_is_no_right_bracket, end_is_no_left_bracket, end_is_no_is, end_is_no_boxes}
 use Rattle.nxf_tree.specs.declared.tree.IndexName.{IndexName}
 use Rattle.nxf_tree.specs.declared.tree.IndexName.TheVariants as index
 use Rattle.nxf_tree.specs.declared.tree.SpecKey.{SpecKey}
@@ -24,7 +24,7 @@ use Rattle.syntax_definitions.specs.Logic.{IsKey, IsValue, AreItems, IsItem, IsE
 use Rattle.syntax_definitions.specs.Logic as g
 use Rattle.syntax_definitions.specs.steps.ReadLists.{list_from}
 use Rattle.syntax_definitions.specs.steps.ReadLogic.{dollar_key, key_by, spec_key, entry_with, alone_by, stands_alone, item_if, item_of, dollar_value, items_by, value_by, value_of, inner_entry, entries_by, logic_if, logic_spec}
-use Rattle.syntax_definitions.proofs.Levels.{value_is}
+use Rattle.syntax_definitions.proofs.CallerLemmas.{value_is}
 use Rattle.grammar_laws.proofs.Lists.{list_sound}
 
 -- ---- each reading takes a token

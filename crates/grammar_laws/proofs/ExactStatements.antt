@@ -6,7 +6,7 @@ use Rattle.nxf_terminals.specs.Names.{is_word}
 use Rattle.tptp_lex.specs.Texts.{token_text}
 use Rattle.nxf_terminals.specs.Signs.{same_sign}
 use Rattle.nxf_terminals.specs.Input.{Spelling, Input, and_then, kind, sees, expect, pure}
-use Rattle.nxf_terminals.proofs.Tools.{bound, moved, expected, with_expected, end_is_no_close, end_is_no_stop, end_is_no_comma, end_is_no_open, end_is_no_left_bracket}
+use Rattle.nxf_terminals.proofs.CallerLemmas.{bound, moved, expected, with_expected, end_is_no_close, end_is_no_stop, end_is_no_comma, end_is_no_open, end_is_no_left_bracket}
 use Rattle.nxf_tree.specs.declared.tree.Role.{Role}
 use Rattle.nxf_tree.specs.declared.tree.Body.{Body}
 use Rattle.nxf_tree.specs.declared.tree.Body.TheVariants as body

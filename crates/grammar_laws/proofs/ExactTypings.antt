@@ -5,7 +5,7 @@ use Rattle.nxf_terminals.specs.declared.sign.Sign.TheVariants as sign
 use Rattle.tptp_lex.specs.Texts.{token_text}
 use Rattle.nxf_terminals.specs.Signs.{same_sign}
 use Rattle.nxf_terminals.specs.Input.{Spelling, Input, Parser, and_then, kind, next, sees, expect, refuse, pure}
-use Rattle.nxf_terminals.proofs.Tools.{bound, moved, expected, with_expected, end_is_no_close, end_is_no_greater, end_is_no_colon, end_is_no_sort_type}
+use Rattle.nxf_terminals.proofs.CallerLemmas.{bound, moved, expected, with_expected, end_is_no_close, end_is_no_greater, end_is_no_colon, end_is_no_sort_type}
 use Rattle.nxf_tree.specs.declared.tree.SortName.{SortName}
 use Rattle.nxf_tree.specs.declared.tree.Typing.{Typing}
 use Rattle.nxf_tree.specs.declared.tree.Typing.TheVariants as typing
@@ -17,7 +17,7 @@ use Rattle.grammar_laws.proofs.Sound.{sort_sound}
 use Rattle.syntax_definitions.specs.Typings.{IsResult, AreSorts, IsType, IsTyping}
 use Rattle.syntax_definitions.specs.Typings as g
 use Rattle.syntax_definitions.specs.steps.ReadTypings.{ends_type, result_by, result, sorts_by, sorts_from, are_arguments_by, are_arguments, grouped, symbol, after_sort, in_brackets, type_by, type_of, named, typing_by, typing_of}
-use Rattle.syntax_definitions.proofs.Levels.{type_is, typing_is}
+use Rattle.syntax_definitions.proofs.CallerLemmas.{type_is, typing_is}
 
 -- ---- what the grammar reads is read
 

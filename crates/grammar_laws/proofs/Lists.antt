@@ -3,7 +3,7 @@ use Rattle.std.proofs.Common.{◌≡◌, ℕ, zero, suc, List, [], ◌∷◌, �
 use Rattle.nxf_terminals.specs.declared.sign.Sign.{Sign}
 use Rattle.nxf_terminals.specs.declared.sign.Sign.TheVariants as sign
 use Rattle.nxf_terminals.specs.Input.{Spelling, Input, Parser, kind}
-use Rattle.nxf_terminals.proofs.Tools.{bound, moved}
+use Rattle.nxf_terminals.proofs.CallerLemmas.{bound, moved}
 use Rattle.syntax_definitions.specs.steps.ReadLists.{list_by, list_from}
 
 pub record ReadList {A : Type 0} (Are : Input → List A → Input → Type 0) (found : List A) (xs : Input) (out : List A) (rest : Input) : Type 0 where

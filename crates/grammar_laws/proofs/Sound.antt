@@ -22,8 +22,8 @@ use Rattle.nxf_terminals.specs.Signs.{same_sign}
 use Rattle.syntax_definitions.specs.Formulas.{IsTerm, AreTerms, IsSort, IsBoundSort, IsIndex, IsLongIndex, IsUnit, IsQuantified, AreUnits, IsFormula}
 use Rattle.syntax_definitions.specs.Formulas as g
 use Rattle.syntax_definitions.specs.steps.ReadFormulas.{listed, terms_from, arguments, many, term_by, term, argument, joined, units_from, units, pair, chain, whole, group, sort_by, sort_name, bound_by, bound_sort, index_by, index_text, long_by, long_index, modal_of, long, scope, variable, comparison, after_name, unit_by, unit, quantified, formula}
-use Rattle.nxf_terminals.proofs.Tools.{bound, Ran, yes, no, ran, moved, Item, item_at, after_seen, after_unseen, expected, with_bound, with_expected, end_is_no_close, end_is_no_comma, end_is_no_open, end_is_no_colon, end_is_no_and, end_is_no_or, end_is_no_upper, end_is_no_left_bracket, end_is_no_right_bracket, end_is_no_hash, end_is_no_greater, end_is_no_at, end_is_no_right_brace}
-use Rattle.syntax_definitions.proofs.Refusals.{no_terms}
+use Rattle.nxf_terminals.proofs.CallerLemmas.{bound, Ran, yes, no, ran, moved, Item, item_at, after_seen, after_unseen, expected, with_bound, with_expected, end_is_no_close, end_is_no_comma, end_is_no_open, end_is_no_colon, end_is_no_and, end_is_no_or, end_is_no_upper, end_is_no_left_bracket, end_is_no_right_bracket, end_is_no_hash, end_is_no_greater, end_is_no_at, end_is_no_right_brace}
+use Rattle.syntax_definitions.proofs.CallerLemmas.{no_terms}
 
 -- ---- terms
 

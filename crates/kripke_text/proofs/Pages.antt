@@ -11,7 +11,7 @@ use Rattle.nxf_tree.specs.Rows.{Table, AreSizes, size_at}
 use Rattle.fin_struct.specs.Cells.{table_at}
 use Rattle.fin_struct.specs.RowLists.{listed}
 use Rattle.fin_struct.specs.KripkeTables.{KripkeTables, IsKripke, IsKripkeFor, kripke_structure}
-use Rattle.fin_struct.proofs.CorrespondingLemmas.{whole-lists}
+use Rattle.fin_struct.proofs.CallerLemmas.{whole-lists}
 use Rattle.structure_laws.proofs.KripkeLists.{kripke-law}
 use Rattle.kripke_text_laws.proofs.Whole.{tables_are}
 use Rattle.plain_tokens.specs.Marks.{Mark, spelled}

@@ -12,8 +12,7 @@ use Rattle.fin_struct.specs.Places.{InRange, place, rows_count}
 use Rattle.fin_struct.specs.Cells.{CellTable, no_table, table_at, with_cell}
 use Rattle.fin_struct.specs.RowLists.{bit_of, marked, rows_of, listed}
 use Rattle.fin_struct.specs.KripkeTables.{KripkeTables, IsKripke, IsKripkeFor, with_written}
-use Rattle.fin_struct.proofs.KripkeLemmas.{small_bit}
-use Rattle.fin_struct.proofs.RowListsLemmas.{row_at, row_at-in_range, place-row_at, length-all_rows, all_rows-at}
+use Rattle.fin_struct.proofs.CallerLemmas.{small_bit, row_at, row_at-in_range, place-row_at, length-all_rows, all_rows-at}
 use Rattle.plain_tokens.specs.PlainTokens.{Plain}
 use Rattle.plain_tokens.specs.Marks.{Mark, plains, mark_plains}
 use Rattle.kripke_text_definitions.specs.KripkeText as text

@@ -11,7 +11,7 @@ use Rattle.fin_struct.specs.Places.{rows_count}
 use Rattle.fin_struct.specs.Cells.{CellTable, no_table, table_at}
 use Rattle.fin_struct.specs.RowLists.{blank, blanks, listed, shape_of, shapes_of, AreFilled}
 use Rattle.fin_struct.specs.KripkeTables.{KripkeTables, IsKripke, IsKripkeFor, kripke_shapes}
-use Rattle.fin_struct.proofs.RowListsLemmas.{lists-fit}
+use Rattle.fin_struct.proofs.CallerLemmas.{lists-fit}
 use Rattle.plain_tokens.specs.PlainTokens.{Plain}
 use Rattle.plain_tokens.specs.Marks.{Mark, plains}
 use Rattle.kripke_text_definitions.specs.declared.error.KripkeTextError.TheVariants.{Form}

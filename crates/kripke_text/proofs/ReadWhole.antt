@@ -11,13 +11,12 @@ use Rattle.nxf_tree.specs.Rows.{Table, Shape, AreSizes, size_at}
 use Rattle.nxf_tree.specs.WellFormed.{HasSortsInRange, IsWellFormed}
 use Rattle.tptp_lex.specs.declared.token.Token.{Token}
 use Rattle.tptp_lex.specs.Lexing.{Lexes}
-use Rattle.tptp_lex.proofs.Pieces.{one_lexing}
+use Rattle.tptp_lex.proofs.CallerLemmas.{one_lexing}
 use Rattle.structure_laws.proofs.KripkeLists.{kripke-law, kripkes-determine}
 use Rattle.fin_struct.specs.Limits.{cells_in}
 use Rattle.fin_struct.specs.RowLists.{listed}
 use Rattle.fin_struct.specs.KripkeTables.{KripkeTables, IsKripke, IsKripkeFor, blank_kripke, kripke_shapes, kripke_structure, others_of}
-use Rattle.fin_struct.proofs.BlankKripke.{classical-shapes}
-use Rattle.fin_struct.proofs.CorrespondingLemmas.{whole-lists}
+use Rattle.fin_struct.proofs.CallerLemmas.{classical-shapes, whole-lists}
 use Rattle.plain_tokens.specs.PlainTokens.{Plain, plains_of}
 use Rattle.plain_tokens.specs.Marks.{Mark, plains}
 use Rattle.kripke_text_definitions.specs.declared.error.KripkeTextError.{KripkeTextError}

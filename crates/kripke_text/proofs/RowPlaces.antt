@@ -7,7 +7,7 @@ use Rattle.fin_struct.specs.Places.{rows_count, InRange, place}
 use Rattle.fin_struct.specs.Cells.{CellTable, table_at}
 use Rattle.fin_struct.specs.Limits.{cells_in}
 use Rattle.fin_struct.specs.RowLists.{shapes_of}
-use Rattle.fin_struct.proofs.RowListsLemmas.{row_at, row_at-in_range, place-row_at}
+use Rattle.fin_struct.proofs.CallerLemmas.{row_at, row_at-in_range, place-row_at}
 
 -- a table has no more rows than there are cells
 pub rows_few : (tables : List CellTable) (t : ℕ) → t < length tables → rows_count (table_at tables t).sizes ≤ cells_in (shapes_of tables)

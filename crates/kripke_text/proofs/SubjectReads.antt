@@ -17,8 +17,7 @@ use Rattle.nxf_tree.specs.Structures.{symbol_shape}
 use Rattle.fin_struct.specs.Places.{InRange, place, rows_count}
 use Rattle.fin_struct.specs.Cells.{CellTable, cell, table_at}
 use Rattle.fin_struct.specs.RowLists.{shape_of, IsFilled}
-use Rattle.fin_struct.proofs.KripkeLemmas.{numbers_end}
-use Rattle.fin_struct.proofs.RowListsLemmas.{length-all_rows, all_rows-at}
+use Rattle.fin_struct.proofs.CallerLemmas.{numbers_end, length-all_rows, all_rows-at}
 use Rattle.structure_laws.proofs.KripkeLists.{own-tables}
 use Rattle.fin_struct.specs.KripkeTables.{KripkeTables, IsKripke, IsKripkeFor, relation_table, existence_number, place_or_zero, stands_in, exists_in, symbol_table, symbol_row, takes_world_in, value_in, predicate_in}
 use Rattle.structure_laws.proofs.FirstFaultLemmas.{regime_at-place}

@@ -7,7 +7,7 @@ use Rattle.nxf_tree.specs.Signature.{takes_world}
 use Rattle.fin_struct.specs.Places.{InRange}
 use Rattle.fin_struct.specs.Cells.{bound_of, with_row}
 use Rattle.fin_struct.specs.KripkeTables.{KripkeTables, IsKripke, IsKripkeFor, existence_place, symbol_number, symbol_table, with_value, with_written}
-use Rattle.fin_struct.proofs.KripkeLemmas.{written_kripke}
+use Rattle.fin_struct.proofs.CallerLemmas.{written_kripke}
 use Rattle.structure_laws.proofs.StructureWritesLemmas.{stays-kripke-for}
 use Rattle.plain_tokens.specs.PlainTokens.{Plain}
 use Rattle.kripke_text_definitions.specs.KripkeText.{Label}

@@ -6,8 +6,7 @@ use Rattle.tptp_lex.specs.declared.token.Lexeme.TheVariants as lexeme
 use Rattle.tptp_lex.specs.Front.{front, punctuation_len}
 use Rattle.tptp_lex.specs.Texts.{token_text}
 use Rattle.nxf_base.specs.Bytes.{is_word_byte}
-use Rattle.tptp_lex.proofs.Printed.{spelled_longest}
-use Rattle.tptp_lex.proofs.Runs.{stops}
+use Rattle.tptp_lex.proofs.CallerLemmas.{spelled_longest, stops}
 use Rattle.nxf_tree.specs.declared.tree.IndexName.{IndexName}
 use Rattle.nxf_tree.specs.declared.tree.IndexName.TheVariants as index
 use Rattle.nxf_tree.specs.declared.tree.SortName.{SortName}

@@ -12,8 +12,7 @@ use Rattle.tptp_lex.specs.Front.{front, punctuation_len}
 use Rattle.tptp_lex.specs.Texts.{token_text}
 use Rattle.nxf_base.specs.Bytes.{is_word_byte}
 use Rattle.tptp_lex.specs.Lexing.{Lexes}
-use Rattle.tptp_lex.proofs.Printed.{spelled_longest}
-use Rattle.tptp_lex.proofs.Runs.{stops}
+use Rattle.tptp_lex.proofs.CallerLemmas.{spelled_longest, stops}
 use Rattle.nxf_tree.specs.declared.tree.Signature.{Signature}
 use Rattle.nxf_tree.specs.declared.tree.SortEntry.{SortEntry}
 use Rattle.nxf_tree.specs.declared.tree.SymbolEntry.{SymbolEntry}

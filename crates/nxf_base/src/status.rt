@@ -47,7 +47,7 @@ pub enum Status {
     WriteFault,
     /// There was no memory.
     Memory,
-    /// The words or the file are of a kind that this version does not translate yet.
+    /// The words are of a command that this version does not carry out yet.
     NotYet,
 }
 
@@ -90,7 +90,7 @@ pub enum SortKind {
     Mismatch,
     /// The variable is bound by no quantifier.
     FreeVariable,
-    /// The logic statement asks something of a name that does not occur.
+    /// The logic statement asks something of a sort or function by a name that the file has not.
     UnknownOverride,
 }
 

@@ -1,5 +1,6 @@
 pub mod Asked
 pub mod Bringing
+pub mod CallerLemmas
 pub mod Callers
 pub mod OneFile
 pub mod Over

@@ -79,10 +79,7 @@ fn visit<L: Library>(
                 add_selected(alloc, &mut statements, &file, &names, part.statements)?;
             }
             Statement::Annotated { name, role, body } => {
-                match add(&mut statements, Statement::Annotated { name, role, body }) {
-                    Ok(()) => {}
-                    Err(Memory) => return Err(GatherError::Memory),
-                }
+                add(&mut statements, Statement::Annotated { name, role, body })?;
             }
         }
     }

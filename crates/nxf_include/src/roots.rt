@@ -89,10 +89,9 @@ pub fn load_first<L: Library>(
     ensures absent { result ≡ Ok Found.Absent → EachMissRose (map L.shelf libraries.old) (map L.shelf libraries.new) }
 {
     for at in 0..libraries.len() {
-        match libraries[at].load(name, limit, into) {
-            Ok(Found::Here) => return Ok(Found::Here),
-            Ok(Found::Absent) => {}
-            Err(error) => return Err(error),
+        match libraries[at].load(name, limit, into)? {
+            Found::Here => return Ok(Found::Here),
+            Found::Absent => {}
         }
     }
     Ok(Found::Absent)

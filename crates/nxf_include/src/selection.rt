@@ -27,18 +27,13 @@ pub fn add_selected(
         (λ e. selected file.now names.now statements ≡ Err e ⊎ e ≡ GatherError.Memory) }
 {
     let Some(names) = names else {
-        return match add_all(into, statements) {
-            Ok(()) => Ok(()),
-            Err(Memory) => Err(GatherError::Memory),
-        };
+        return Ok(add_all(into, statements)?);
     };
     let names = names.as_slice();
-    match add_listed(alloc, into, names, statements) {
-        Ok(found) => match missing(&found, names) {
-            Some(name) => Err(no_such_name(alloc, file, name)),
-            None => Ok(()),
-        },
-        Err(Memory) => Err(GatherError::Memory),
+    let found = add_listed(alloc, into, names, statements)?;
+    match missing(&found, names) {
+        Some(name) => Err(no_such_name(alloc, file, name)),
+        None => Ok(()),
     }
 }
 

@@ -1,4 +1,5 @@
 pub mod Asked
+pub mod CallerLemmas
 pub mod FewNames
 pub mod Lookups
 pub mod Noted

@@ -27,7 +27,7 @@ use Rattle.name_laws.proofs.Apart.{sort-true, index-true}
 use Rattle.signature_laws.proofs.NoFault.{index-append}
 use Rattle.name_laws.proofs.SameNames.{same_sort-sym}
 use Rattle.nxf_signatures.specs.Places.{place}
-use Rattle.nxf_signatures.proofs.Walks.{of_And, of_Or}
+use Rattle.nxf_signatures.proofs.CallerLemmas.{of_And, of_Or}
 use Rattle.nxf_sorts.specs.declared.fault.Fault.{Fault}
 use Rattle.numbered_definitions.specs.declared.node.NTerm.{NTerm}
 use Rattle.numbered_definitions.specs.declared.node.Node.{Node, Row_of-Node, end_of-Node, more_of-Node}

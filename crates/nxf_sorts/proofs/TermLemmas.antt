@@ -21,7 +21,7 @@ use Rattle.name_laws.proofs.Firsts.{split_bool}
 use Rattle.signature_laws.proofs.NoFault.{some-none, or-none, test-passes}
 use Rattle.name_laws.proofs.SameNames.{same_sort-sym}
 use Rattle.name_laws.proofs.SortedFormulas.{sort_of-App}
-use Rattle.nxf_signatures.proofs.Walks.{row_length_is}
+use Rattle.nxf_signatures.proofs.CallerLemmas.{row_length_is}
 use Rattle.numbered_definitions.specs.declared.node.NTerm.{NTerm, Bound as Level, Row_of-NTerm, end_of-NTerm, more_of-NTerm}
 use Rattle.numbered_definitions.specs.declared.node.NTerm as numbered
 use Rattle.numbered_definitions.specs.declared.node.NTerm.TheBlock.{hidden-the_row-NTerm-0, items-the_row-NTerm, items_hidden-the_row-NTerm-0}

@@ -25,8 +25,7 @@ use Rattle.name_laws.proofs.Firsts.{split_bool, firsts-none, has-firsts}
 use Rattle.name_laws.proofs.SameNames.{same_text-sym}
 use Rattle.nxf_signatures.specs.declared.declarations.Declarations.{Declarations}
 use Rattle.nxf_signatures.specs.steps.Tables.{uses_in, sort_texts}
-use Rattle.nxf_signatures.proofs.Noted.{texts_noted, symbols_noted, type_first}
-use Rattle.nxf_signatures.proofs.TablesLaw.{sorts_are}
+use Rattle.nxf_signatures.proofs.CallerLemmas.{texts_noted, symbols_noted, type_first, sorts_are}
 use Rattle.nxf_sorts.specs.declared.error.SortError.{SortError}
 use Rattle.nxf_sorts.specs.declared.fault.Fault.{Fault}
 use Rattle.nxf_sorts.specs.Judging.{Judges, IsFileFault, typing_after, statement_after}

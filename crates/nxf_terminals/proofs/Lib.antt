@@ -1,3 +1,4 @@
+pub mod CallerLemmas
 pub mod Spelled
 pub mod Tools
 pub mod Turns

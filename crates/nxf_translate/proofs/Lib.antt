@@ -1,3 +1,4 @@
+pub mod CallerLemmas
 pub mod FormCases
 pub mod Members
 pub mod Options

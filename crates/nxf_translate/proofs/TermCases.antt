@@ -15,7 +15,7 @@ use Rattle.nxf_tree.specs.WellFormed.{HasDifferentNames}
 use Rattle.numbered_definitions.specs.declared.node.NTerm.{NTerm, Bound}
 use Rattle.numbered_definitions.specs.declared.node.NTerm as numbered
 use Rattle.numbered_definitions.specs.NamedForm.{both, variable, symbol_name, named_term, named_terms}
-use Rattle.classical_syntax.proofs.Places.{is_flexible-place}
+use Rattle.classical_syntax.proofs.CallerLemmas.{is_flexible-place}
 use Rattle.nxf_translate.specs.steps.Forms.{HasTerm, HasTerms, IsTerm}
 use Rattle.nxf_translate.proofs.Options.{mapped, joined}
 use Rattle.nxf_translate.proofs.Rows.{of_App}

@@ -18,9 +18,7 @@ use Rattle.tptp_lex.specs.Front.{front, punctuation_len, quote_len}
 use Rattle.tptp_lex.specs.Shapes.{IsLongest, closes}
 use Rattle.tptp_lex.specs.Texts.{token_text, unescaped}
 use Rattle.tptp_lex.specs.Lexing.{Piece, Begins, token_of, tokens_from, Lexes}
-use Rattle.tptp_lex.proofs.Printed.{spelled_longest, word_longest}
-use Rattle.tptp_lex.proofs.Runs.{stops}
-use Rattle.tptp_lex.proofs.Closed.{quote_front}
+use Rattle.tptp_lex.proofs.CallerLemmas.{spelled_longest, word_longest, stops, quote_front}
 use Rattle.nxf_base.specs.Bytes.{is_word_byte}
 use Rattle.nxf_tree.specs.Names.{numeral}
 use Rattle.nxf_tree.specs.Text.{is_bare}

@@ -14,9 +14,7 @@ use Rattle.tptp_lex.specs.Front.{front, front_by, number_len}
 use Rattle.tptp_lex.specs.Lexing.{Piece, Begins, Lexes, tokens_from}
 use Rattle.tptp_lex.specs.Shapes.{IsLongest}
 use Rattle.tptp_lex.specs.Texts.{token_text, unescaped}
-use Rattle.tptp_lex.proofs.Classes.{class_digit}
-use Rattle.tptp_lex.proofs.Printed.{spelled_longest}
-use Rattle.tptp_lex.proofs.Runs.{run_exact}
+use Rattle.tptp_lex.proofs.CallerLemmas.{class_digit, spelled_longest, run_exact}
 use Rattle.plain_tokens.specs.PlainTokens.{Plain, plains_of}
 use Rattle.plain_tokens.specs.Marks.{Mark, Name, Object, mark_text, mark_plains, spelled}
 use Rattle.plain_tokens.specs.TokenLaws.{LexesAs, NameLaw, ObjectLaw, NumeralLaw}

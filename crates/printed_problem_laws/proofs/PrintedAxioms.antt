@@ -32,10 +32,9 @@ use Rattle.nxf_tree.specs.Embedding.{at_world}
 use Rattle.nxf_tree.specs.Conditions.{local_result, argument_sorts}
 use Rattle.nxf_tree.specs.Axioms.{world, element, for_each_world, for_some_world, for_each_element, for_some_element, reaches, exists_at, frame_axiom, frame_axioms, someone_axiom, everyone_axiom, stay_axiom, were_there_axiom, monotone_axioms, domain_axioms_of, domain_axioms, elements_from, for_each_row, row_guards, under_guards, value_is_there, term_axiom, result_axioms, term_axioms_of, term_axioms, added_axioms}
 use Rattle.nxf_tree.specs.RegularFormulas.{is_regular_sort, is_regular_index, is_regular_term, is_regular_list, is_regular_formula, is_regular_formula_list}
-use Rattle.syntax_definitions.proofs.RegularTrees.{regular_App, regular_And}
+use Rattle.syntax_definitions.proofs.CallerLemmas.{regular_App, regular_And, levels_of_App, levels_of_And}
 use Rattle.nxf_tree.specs.Regular.{is_regular_result}
 use Rattle.syntax_definitions.specs.Levels.{term_levels, list_levels, with_brackets, formula_levels, unit_list_levels}
-use Rattle.syntax_definitions.proofs.LevelsOfTrees.{levels_of_App, levels_of_And}
 use Rattle.printed_problem_laws.proofs.PrintedNames.{printable_user_name, regular_user_sort, world_variable_is, element_variable_is, printable_world, printable_relation, printable_existence, printable_name, regular_sort_name, regular_index_name}
 use Rattle.printed_problem_laws.proofs.PrintedFormulas.{named_list, regular_pair}
 

@@ -22,9 +22,8 @@ use Rattle.nxf_tree.specs.Names.{user_name, user_variable, user_sort, world_vari
 use Rattle.nxf_tree.specs.Signature.{is_constant, is_flexible}
 use Rattle.nxf_tree.specs.Embedding.{at_world, st_term, st_terms, guard, guarded, over_worlds, st, sts, embedded}
 use Rattle.nxf_tree.specs.RegularFormulas.{is_regular_sort, is_regular_index, is_regular_term, are_regular_terms, terms_count, is_regular_list, is_regular_formula, are_regular_formulas, formulas_count}
-use Rattle.syntax_definitions.proofs.RegularTrees.{regular_App}
+use Rattle.syntax_definitions.proofs.CallerLemmas.{regular_App, levels_of_App}
 use Rattle.syntax_definitions.specs.Levels.{term_levels, arguments_levels, list_levels, with_brackets, formula_levels, members_levels, unit_levels}
-use Rattle.syntax_definitions.proofs.LevelsOfTrees.{levels_of_App}
 use Rattle.printed_problem_laws.proofs.PrintedNames.{printable_user_name, regular_user_sort, user_variable_is, world_variable_is, printable_world, printable_actual, printable_relation, printable_existence}
 
 -- a symbol with its arguments

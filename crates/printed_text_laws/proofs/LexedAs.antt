@@ -8,7 +8,7 @@ use Rattle.tptp_lex.specs.declared.token.Lexeme.TheVariants as lexeme
 use Rattle.tptp_lex.specs.Front.{front}
 use Rattle.tptp_lex.specs.Shapes.{IsLongest}
 use Rattle.tptp_lex.specs.Lexing.{Piece, Begins, token_of, tokens_from, Lexes}
-use Rattle.tptp_lex.proofs.Printed.{spelled_longest}
+use Rattle.tptp_lex.proofs.CallerLemmas.{spelled_longest}
 use Rattle.nxf_tree.specs.declared.profile.Profile.{Profile}
 use Rattle.nxf_terminals.specs.Signs.{sign_of}
 use Rattle.nxf_terminals.specs.Input.{Input, input_of}

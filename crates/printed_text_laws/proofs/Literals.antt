@@ -8,8 +8,7 @@ use Rattle.tptp_lex.specs.declared.token.Kind.TheVariants as kind
 use Rattle.tptp_lex.specs.declared.token.Lexeme.TheVariants as lexeme
 use Rattle.nxf_base.specs.Bytes.{is_name_byte, is_upper, is_word_byte}
 use Rattle.tptp_lex.specs.Front.{front, punctuation_len}
-use Rattle.tptp_lex.proofs.Printed.{word_longest}
-use Rattle.tptp_lex.proofs.Runs.{stops}
+use Rattle.tptp_lex.proofs.CallerLemmas.{word_longest, stops}
 use Rattle.nxf_tree.specs.declared.profile.Profile.{Profile}
 use Rattle.nxf_tree.specs.declared.profile.Profile.TheVariants as profiles
 use Rattle.nxf_terminals.specs.declared.sign.Sign.{Sign}
@@ -17,7 +16,7 @@ use Rattle.nxf_terminals.specs.declared.sign.Sign.TheVariants as sign
 use Rattle.nxf_terminals.specs.Signs.{lookup, punctuation, words, allowed, sign_of, same_sign}
 use Rattle.nxf_base.specs.Bytes.{is_printable_text, is_variable_text, is_word_text}
 use Rattle.nxf_terminals.specs.Input.{Input}
-use Rattle.nxf_terminals.proofs.Tools.{same_true_sign}
+use Rattle.nxf_terminals.proofs.CallerLemmas.{same_true_sign}
 use Rattle.nxf_tree.specs.Text.{is_bare, name_text}
 use Rattle.syntax_definitions.specs.Files.{statement_parts}
 use Rattle.nxf_tree.specs.Profiles.{has_distinct}

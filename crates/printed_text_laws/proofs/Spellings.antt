@@ -12,9 +12,7 @@ use Rattle.tptp_lex.specs.Front.{front, front_by, quote_len, name_after}
 use Rattle.nxf_base.specs.Bytes.{begins_then}
 use Rattle.tptp_lex.specs.Shapes.{closes}
 use Rattle.tptp_lex.specs.Texts.{unescaped, token_text}
-use Rattle.tptp_lex.proofs.Classes.{class_upper}
-use Rattle.tptp_lex.proofs.Closed.{quote_front}
-use Rattle.tptp_lex.proofs.Runs.{run_exact, stops}
+use Rattle.tptp_lex.proofs.CallerLemmas.{class_upper, quote_front, run_exact, stops}
 use Rattle.nxf_terminals.specs.Names.{is_word}
 use Rattle.nxf_base.specs.Bytes.{is_printable_byte, is_printable_text, is_variable_text, is_word_text}
 use Rattle.nxf_tree.specs.Text.{is_bare_byte, is_bare, escaped_byte, name_text}

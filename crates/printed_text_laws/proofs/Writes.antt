@@ -3,7 +3,7 @@ use Rattle.std.proofs.Common.{◌≡◌, ℕ, Bool, true, false, List, [], ◌�
 use Rattle.std.specs.Prelude.{flat_map}
 use Rattle.std.specs.List.{join_by, AllByRecursion}
 use Rattle.nxf_base.specs.Bytes.{is_word_byte}
-use Rattle.tptp_lex.proofs.Runs.{stops}
+use Rattle.tptp_lex.proofs.CallerLemmas.{stops}
 use Rattle.nxf_tree.specs.declared.profile.Profile.{Profile}
 use Rattle.nxf_terminals.specs.Input.{Item, Input}
 use Rattle.syntax_definitions.specs.Files.{statement_parts}

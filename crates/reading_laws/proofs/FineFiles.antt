@@ -6,7 +6,7 @@ use Rattle.std.proofs.lemmas.Bool.{and_from}
 use Rattle.std.proofs.lemmas.List.{length-map}
 use Rattle.tptp_lex.specs.declared.token.Token.{Token}
 use Rattle.tptp_lex.specs.Lexing.{Lexes}
-use Rattle.tptp_lex.proofs.Spans.{all_spelled}
+use Rattle.tptp_lex.proofs.CallerLemmas.{all_spelled}
 use Rattle.nxf_terminals.specs.declared.sign.Sign.TheVariants as sign
 use Rattle.nxf_tree.specs.declared.profile.Profile.{Profile}
 use Rattle.nxf_tree.specs.declared.profile.Profile.TheVariants as profiles
@@ -14,7 +14,7 @@ use Rattle.nxf_terminals.specs.Signs.{same_sign}
 use Rattle.nxf_terminals.specs.Input.{Item, Input, input_of, item_of}
 use Rattle.nxf_tree.specs.Profiles.{Allowed}
 use Rattle.nxf_terminals.specs.Spelled.{IsSpelled}
-use Rattle.nxf_terminals.proofs.Spelled.{Permits, items_spelled}
+use Rattle.nxf_terminals.proofs.CallerLemmas.{Permits, items_spelled}
 use Rattle.nxf_tree.specs.declared.tree.Statement.{Statement}
 use Rattle.nxf_tree.specs.declared.tree.File.{File}
 use Rattle.nxf_tree.specs.FileDepth.{statement_list_depth, file_depth}

@@ -10,7 +10,7 @@ use Rattle.nxf_terminals.specs.Input.{Spelling, Item, Input}
 use Rattle.nxf_tree.specs.Profiles.{Allowed}
 use Rattle.nxf_base.specs.Bytes.{is_printable_text, is_variable_text}
 use Rattle.nxf_terminals.specs.Spelled.{IsSpelled}
-use Rattle.nxf_terminals.proofs.Spelled.{name_printable, digits_printable}
+use Rattle.nxf_terminals.proofs.CallerLemmas.{name_printable, digits_printable}
 use Rattle.nxf_tree.specs.declared.tree.SortName.{SortName}
 use Rattle.nxf_tree.specs.declared.tree.Term.{Term}
 use Rattle.nxf_tree.specs.declared.tree.Formula.{Formula}
@@ -22,14 +22,14 @@ use Rattle.nxf_tree.specs.declared.tree.IndexName.TheVariants as index
 use Rattle.nxf_tree.specs.declared.tree.Quantifier.{Quantifier}
 use Rattle.nxf_tree.specs.Depth.{term_depth, list_depth, formula_depth, formula_list_depth}
 use Rattle.nxf_tree.specs.Weight.{term_weight, list_weight, formula_weight, formula_list_weight}
-use Rattle.nxf_tree.proofs.Depths.{term_depth_of_App, formula_depth_of_And, formula_depth_of_Or, formula_depth_of_Not, formula_depth_of_Pair, formula_depth_of_Quant, formula_depth_of_Modal}
+use Rattle.nxf_tree.proofs.CallerLemmas.{term_depth_of_App, formula_depth_of_And, formula_depth_of_Or, formula_depth_of_Not, formula_depth_of_Pair, formula_depth_of_Quant, formula_depth_of_Modal}
 use Rattle.reading_laws.proofs.Weights.{term_weight_of_App, formula_weight_of_And, formula_weight_of_Or, formula_weight_of_Not, formula_weight_of_Pair, formula_weight_of_Quant, formula_weight_of_Modal}
 use Rattle.syntax_definitions.specs.Operators.{mode_of}
 use Rattle.nxf_tree.specs.RegularFormulas.{is_regular_sort, is_regular_index, is_regular_term, is_regular_list, is_regular_formula, is_regular_formula_list}
 use Rattle.syntax_definitions.specs.Formulas.{IsTerm, variable, constant, call, AreTerms, last_term, more_terms, IsSort, individual, user, IsBoundSort, no_sort, with_sort, IsIndex, named, numbered, IsLongIndex, plain, indexed, IsUnit, brackets, not, box, dia, box_of, dia_of, long, distinct, all, exists, atom, atom_of, same, differ, IsQuantified, last_variable, more_variables, AreUnits, last_unit, more_units, IsFormula, alone, and, or, pair}
 use Rattle.syntax_definitions.specs.Formulas as g
 use Rattle.reading_laws.proofs.LeftOfFormulas.{term_left, bound_left, index_left, long_left, unit_left}
-use Rattle.syntax_definitions.proofs.RegularTrees.{regular_App, regular_And, regular_Or, regular_Not, regular_Pair, regular_Quant, regular_Modal}
+use Rattle.syntax_definitions.proofs.CallerLemmas.{regular_App, regular_And, regular_Or, regular_Not, regular_Pair, regular_Quant, regular_Modal}
 
 -- a tree of this depth, weight and regularity is read
 pub record Fine (depth bound weight : ℕ) (regular : Bool) (xs rest : Input) : Type 0 where

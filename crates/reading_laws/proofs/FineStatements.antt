@@ -8,7 +8,7 @@ use Rattle.nxf_terminals.specs.Input.{Spelling, Input}
 use Rattle.nxf_tree.specs.Profiles.{Allowed}
 use Rattle.nxf_base.specs.Bytes.{is_printable_text, is_word_text}
 use Rattle.nxf_terminals.specs.Spelled.{IsSpelled}
-use Rattle.nxf_terminals.proofs.Spelled.{name_printable, name_word}
+use Rattle.nxf_terminals.proofs.CallerLemmas.{name_printable, name_word}
 use Rattle.nxf_tree.specs.declared.tree.SortName.{SortName}
 use Rattle.nxf_tree.specs.declared.tree.Typing.{Typing}
 use Rattle.nxf_tree.specs.declared.tree.SpecKey.{SpecKey}

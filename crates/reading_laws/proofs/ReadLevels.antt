@@ -26,7 +26,7 @@ use Rattle.syntax_definitions.specs.Files.{AreRead, no_more, one_more}
 use Rattle.nxf_tree.specs.Profiles.{levels_of}
 use Rattle.syntax_definitions.specs.Spells.{TokensSpell}
 use Rattle.syntax_definitions.specs.Levels.{term_levels, list_levels, with_brackets, formula_levels, unit_levels, unit_list_levels, statement_levels, statement_list_levels, file_levels}
-use Rattle.syntax_definitions.proofs.LevelsOfTrees.{levels_of_App, levels_of_And, levels_of_Or, levels_of_Not, levels_of_Pair, levels_of_Quant, levels_of_Modal}
+use Rattle.syntax_definitions.proofs.CallerLemmas.{levels_of_App, levels_of_And, levels_of_Or, levels_of_Not, levels_of_Pair, levels_of_Quant, levels_of_Modal}
 
 -- brackets take a level at most
 brackets_by : (b : Bool) (k n : ℕ) → k ≤ n → with_brackets b k ≤ suc n

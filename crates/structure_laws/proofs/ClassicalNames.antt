@@ -24,7 +24,7 @@ use Rattle.fin_struct.specs.Places.{InRange}
 use Rattle.fin_struct.specs.Cells.{no_table, cell, table_at}
 use Rattle.fin_struct.specs.RowLists.{listed, shape_of, IsFilled}
 use Rattle.fin_struct.specs.StructureTables.{StructureTables, IsStructure, IsFor, classical_structure}
-use Rattle.fin_struct.proofs.KripkeLemmas.{holds-listed, value-listed}
+use Rattle.fin_struct.proofs.CallerLemmas.{holds-listed, value-listed}
 use Rattle.structure_laws.specs.ClassicalNamed.{PrintedNamesLaw}
 use Rattle.structure_laws.proofs.KripkeNames.{size-there, some-size}
 

@@ -5,7 +5,7 @@ use Rattle.name_laws.proofs.OneForOne.{one_classical, one_kripke}
 use Rattle.fin_struct.specs.StructureTables.{StructureTables, classical_structure}
 use Rattle.fin_struct.specs.KripkeTables.{KripkeTables, kripke_structure}
 use Rattle.fin_struct.specs.Corresponding.{Agree, lowered, lifted}
-use Rattle.fin_struct.proofs.CorrespondingLemmas.{lowered-is, lowered-agrees, lowered-for, lifts}
+use Rattle.fin_struct.proofs.CallerLemmas.{lowered-is, lowered-agrees, lowered-for, lifts}
 use Rattle.structure_laws.specs.Correspondence.{IsKripkeOver, IsStructureOver, CorrespondenceLaw}
 use Rattle.structure_laws.proofs.EqualStructures.{structures-determine}
 use Rattle.structure_laws.proofs.KripkeLists.{kripke-law, kripkes-determine}

@@ -5,8 +5,7 @@ use Rattle.nxf_tree.specs.Structures.{ClassicalStructure, table_shapes}
 use Rattle.fin_struct.specs.Cells.{CellTable}
 use Rattle.fin_struct.specs.RowLists.{listed, shape_of, AreFilled, shapes_of}
 use Rattle.fin_struct.specs.StructureTables.{StructuresDetermine}
-use Rattle.fin_struct.proofs.RowListsLemmas.{lists-determine}
-use Rattle.fin_struct.proofs.StructureLemmas.{filled_tail, structure_view}
+use Rattle.fin_struct.proofs.CallerLemmas.{lists-determine, filled_tail, structure_view}
 
 abbrev rest_of : {A : Type 0} → List A → List A
 rest_of [] = []

@@ -18,7 +18,7 @@ use Rattle.nxf_tree.specs.declared.tree.Regime.TheVariants.{Constant, Cumulative
 use Rattle.nxf_tree.specs.Signature.{is_constant, constant_regime, sort_at}
 use Rattle.nxf_tree.specs.WellFormed.{HasDifferentNames}
 use Rattle.nxf_tree.specs.Conditions.{meets_scheme, meets_frames, meets_terms, meets_domain, meets_domains, someone_exists, everyone_exists, is_monotone}
-use Rattle.classical_syntax.proofs.Places.{is_constant-place}
+use Rattle.classical_syntax.proofs.CallerLemmas.{is_constant-place}
 use Rattle.fin_struct.specs.declared.condition.Condition.TheVariants.{Frame}
 use Rattle.fin_struct.specs.FirstFault.{FailsFirst, IsFirstFailing, index_at, meets_condition, meets_term, meets_term_at, frames_from, frame_conditions, terms_from, term_conditions, regime_at, goes_along, monotone_from, sort_conditions, domains_from, domain_conditions}
 

@@ -8,10 +8,8 @@ use Rattle.fin_struct.specs.Cells.{CellTable}
 use Rattle.fin_struct.specs.RowLists.{true_rows, listed, shapes_of}
 use Rattle.fin_struct.specs.KripkeTables.{AreNumbered, existing_rows, kripke_shapes, kripke_structure}
 use Rattle.structure_laws.specs.KripkeLaws.{KripkeLaw, KripkesDetermine, OwnTablesLaw}
-use Rattle.fin_struct.proofs.StructureLemmas.{are-tables}
+use Rattle.fin_struct.proofs.CallerLemmas.{are-tables, whole-lists, numbers_end, numbers_in}
 use Rattle.structure_laws.proofs.EqualStructures.{same_tables}
-use Rattle.fin_struct.proofs.CorrespondingLemmas.{whole-lists}
-use Rattle.fin_struct.proofs.KripkeLemmas.{numbers_end, numbers_in}
 use Rattle.structure_laws.proofs.KripkeNames.{numbers-shapes}
 
 existing-count : (tables : List CellTable) (numbers : List (Option ℕ)) (from to : ℕ) → AreNumbered from to numbers → from + length (existing_rows tables numbers) ≡ to

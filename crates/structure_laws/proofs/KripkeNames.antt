@@ -16,14 +16,13 @@ use Rattle.nxf_tree.specs.Rows.{Table, Rows, Shape, size_at, has_row, is_true_ro
 use Rattle.nxf_tree.specs.Structures.{relation_shapes, existence_shapes, symbol_shape, symbol_shapes, kripke_model}
 use Rattle.nxf_tree.specs.WellFormed.{HasDifferentNames}
 use Rattle.name_laws.proofs.Found.{found-law}
-use Rattle.classical_syntax.proofs.Places.{is_constant-place, is_flexible-place}
+use Rattle.classical_syntax.proofs.CallerLemmas.{is_constant-place, is_flexible-place}
 use Rattle.fin_struct.specs.Places.{InRange}
 use Rattle.fin_struct.specs.Cells.{CellTable, no_table, table_at}
 use Rattle.fin_struct.specs.RowLists.{true_rows, listed, shape_of, IsFilled}
 use Rattle.fin_struct.specs.KripkeTables.{KripkeTables, IsKripke, IsKripkeFor, AreNumbered, numbers_from, relation_table, related_in, existence_number, exists_in, stands_in, takes_world_in, symbol_number, symbol_table, symbol_row, value_in, predicate_in, existing_rows, kripke_structure}
 use Rattle.structure_laws.specs.KripkeLaws.{PlacesLaw, NamesLaw}
-use Rattle.fin_struct.proofs.RowListsLemmas.{true_row-cell}
-use Rattle.fin_struct.proofs.KripkeLemmas.{numbers_end, relation_in, existence_in, symbol_in, holds-listed, value-listed}
+use Rattle.fin_struct.proofs.CallerLemmas.{true_row-cell, numbers_end, relation_in, existence_in, symbol_in, holds-listed, value-listed}
 
 -- how many tables of existence there are
 pub length-numbers_from : (entries : List SortEntry) (from : ℕ) → length (numbers_from from entries) ≡ length entries

@@ -5,8 +5,7 @@ use Rattle.fin_struct.specs.Cells.{CellTable, no_table, cell, with_cell, table_a
 use Rattle.fin_struct.specs.KripkeTables.{KripkeTables, stands_in, existence_number, symbol_number, symbol_row}
 use Rattle.fin_struct.specs.KripkeTables.{with_written}
 use Rattle.structure_laws.specs.KripkeWrites.{SameRelated, SameExists, SameSymbols, PairLaw, ExistenceLaw, RowLaw}
-use Rattle.fin_struct.proofs.CellsLemmas.{written_alone}
-use Rattle.fin_struct.proofs.KripkeLemmas.{numbers_end, relation_in, existence_in, symbol_in}
+use Rattle.fin_struct.proofs.CallerLemmas.{written_alone, numbers_end, relation_in, existence_in, symbol_in}
 use Rattle.structure_laws.proofs.KripkeLists.{own-tables}
 
 -- another table stays

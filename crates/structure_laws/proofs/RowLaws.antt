@@ -4,8 +4,7 @@ use Rattle.std.specs.Prelude.{slice_get}
 use Rattle.std.proofs.lemmas.Option.{slice_get_within, get_or_from_slice_get}
 use Rattle.nxf_tree.specs.Rows.{all_rows}
 use Rattle.fin_struct.specs.Places.{rows_count, InRange, place}
-use Rattle.fin_struct.proofs.PlacesLemmas.{place_below}
-use Rattle.fin_struct.proofs.RowListsLemmas.{row_at, row_at-in_range, place-row_at, length-all_rows, all_rows-at}
+use Rattle.fin_struct.proofs.CallerLemmas.{place_below, row_at, row_at-in_range, place-row_at, length-all_rows, all_rows-at}
 use Rattle.structure_laws.specs.RowLaws.{RowsStandLaw, CellsBelowLaw}
 
 -- the row at a number is the one with that place

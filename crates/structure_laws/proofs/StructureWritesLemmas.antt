@@ -1,6 +1,6 @@
 -- A structure for a signature stays one where it is written.
 use Rattle.std.proofs.Common.{◌∙◌}
-use Rattle.fin_struct.proofs.StructureLemmas.{written_shapes_of}
+use Rattle.fin_struct.proofs.CallerLemmas.{written_shapes_of}
 use Rattle.structure_laws.specs.StructureWrites.{StaysForLaw, StaysKripkeForLaw}
 
 pub stays-for : StaysForLaw

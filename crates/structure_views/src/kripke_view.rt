@@ -4,6 +4,7 @@ ghost use Rattle.nxf_tree.specs.Rows as rows;
 ghost use Rattle.fin_struct.specs.Places.{InRange};
 ghost use Rattle.fin_struct.specs.Cells.{bound_of};
 ghost use Rattle.fin_struct.specs.RowLists.{true_rows, listed};
+ghost use Rattle.fin_struct.specs.ExistenceLists.{listed_to_exist};
 ghost use Rattle.fin_struct.specs.KripkeTables.{IsKripke, relation_table, related_in, exists_in, symbol_table, symbol_row, value_in, predicate_in};
 
 use crate::steps::Steps;
@@ -82,6 +83,7 @@ impl<'a> KripkeView<'a> {
         requires world_in { world < self.now.worlds }
         requires element_in { element < rows.size_at self.now.sizes sort }
         ensures cell { result ≡ exists_in self.now sort world element }
+        ensures listed { result ≡ listed_to_exist self.now sort world element }
         ensures step { steps.new ≡ steps.old + 1 }
     {
         steps.tick();

@@ -44,7 +44,8 @@ impl<'a> StructureView<'a> {
 
     /// The value of `mk_actual`.
     pub fn actual(&self) -> u32
-        ensures { result ≡ self.now.actual }
+        ensures actual { result ≡ self.now.actual }
+        ensures below { result < rows.size_at self.now.sizes 0 }
     {
         self.structure.actual()
     }

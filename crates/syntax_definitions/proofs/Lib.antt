@@ -1,4 +1,5 @@
 pub mod Balances
+pub mod CallerLemmas
 pub mod Levels
 pub mod LevelsOfTrees
 pub mod Refusals

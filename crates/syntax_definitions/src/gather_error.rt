@@ -1,6 +1,6 @@
 //! Why a file is refused.
 
-use nxf_base::Text;
+use nxf_base::{Memory, Text};
 
 /// Why there is no gathered file. Texts are names of files and of statements; numbers of statements count from 1 in the
 /// file that is named.
@@ -24,4 +24,15 @@ pub enum GatherError {
     NoSuchName(Text, Text),
     /// There was no memory.
     Memory,
+}
+
+impl From<Memory> for GatherError {
+    ghost use Rattle.std.specs.Prelude.{◌≡◌};
+    ghost use Rattle.syntax_definitions.specs.declared.gather_error.GatherError.TheVariants.{Memory};
+
+    ghost from_gives = { λ _ e. e ≡ Memory };
+
+    fn from(_: Memory) -> GatherError {
+        GatherError::Memory
+    }
 }

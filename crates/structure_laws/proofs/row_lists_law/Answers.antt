@@ -1,4 +1,4 @@
-use Rattle.fin_struct.proofs.RowListsLemmas.{lists-tell, lists-fit, lists-determine}
+use Rattle.fin_struct.proofs.CallerLemmas.{lists-tell, lists-fit, lists-determine}
 use Rattle.structure_laws.proofs.row_lists_law.Goals as goal
 
 pub returns : goal.returns

@@ -1,4 +1,4 @@
-use Rattle.fin_struct.proofs.StructureLemmas.{structure-law}
+use Rattle.fin_struct.proofs.CallerLemmas.{structure-law}
 use Rattle.structure_laws.proofs.EqualStructures.{structures-determine}
 use Rattle.structure_laws.proofs.structure_law.Goals as goal
 

@@ -1,7 +1,7 @@
 use Rattle.std.proofs.Common.{arith}
 use Rattle.std.specs.Prelude.{IsTrue}
 use Rattle.nxf_tree.specs.Sorting.{in_range}
-use Rattle.classical_syntax.proofs.Places.{in_range-below}
+use Rattle.classical_syntax.proofs.CallerLemmas.{in_range-below}
 use Rattle.classical_signatures.proofs.classical_signature.next_result.Goals as goal
 
 pub overflow_add-result : goal.overflow_add-result

@@ -1,7 +1,7 @@
 use Rattle.std.proofs.Common.{◌≡◌, true, get_or, arith}
 use Rattle.std.specs.List.{list_all}
 use Rattle.nxf_tree.specs.Sorting.{in_range}
-use Rattle.classical_syntax.proofs.Places.{in_range-below}
+use Rattle.classical_syntax.proofs.CallerLemmas.{in_range-below}
 use Rattle.classical_signatures.proofs.TableSteps.{member}
 use Rattle.classical_signatures.proofs.classical_signature.table_args.Goals as goal
 

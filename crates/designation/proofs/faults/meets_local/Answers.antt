@@ -1,13 +1,13 @@
 use Rattle.std.proofs.Common.{◌≡◌, ℕ, true, List, sym, ap, subst, ◌∙◌}
 use Rattle.nxf_tree.specs.Sorting.{in_range}
 use Rattle.nxf_tree.specs.Structures.{kripke_model}
-use Rattle.classical_syntax.proofs.Places.{in_range-below}
+use Rattle.classical_syntax.proofs.CallerLemmas.{in_range-below}
 use Rattle.fin_struct.specs.KripkeTables.{kripke_structure}
 use Rattle.structure_laws.specs.KripkeLaws.{ReadsByName}
 use Rattle.structure_laws.proofs.KripkeNames.{names-law}
 use Rattle.designation.specs.steps.RowTests.{HasFunction, values_exist_in}
 use Rattle.condition_axioms.specs.steps.Listed.{IsListed}
-use Rattle.condition_axioms.proofs.AddingTerms.{listed-at}
+use Rattle.condition_axioms.proofs.CallerLemmas.{listed-at}
 use Rattle.designation.proofs.FaultLemmas.{gives-in, args-in, listed-function, result-varying, values-named}
 use Rattle.designation.proofs.faults.meets_local.Goals as goal
 

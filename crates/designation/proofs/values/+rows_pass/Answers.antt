@@ -22,7 +22,7 @@ returns-then-not-rows_pass-clause-passes t c =
     let front = take c.args.place c.args.row.now in
     let test = λ (a : ℕ). implies (exists_in k sort c.args.world a) (rows_pass k c.args.world (drop (c.args.place + 1) c.args.sorts.now) (λ rest. value_exists_at k c.args.symbol c.args.gives c.args.world (front ++ a ∷ rest))) in
     let next = rows-next k c.args.symbol c.args.gives c.args.world (drop (c.args.place + 1) c.args.sorts.now) c.loop-element.row c.args.row.now c.args.place c.loop-element.element (omega arith) c.loop-element.invariant.kept in
-    sym (rows-by k c.args.symbol c.args.gives c.args.world c.args.sorts.now c.args.row.now c.args.place (omega arith) ∙ all_fails (size_at k.sizes sort) c.loop-element.element test (omega arith) (implies_false _ _ (sym c.if-exists.ensures) (sym next ∙ sym c.if-not-rows_pass.ensures.passes)))
+    sym (rows-by k c.args.symbol c.args.gives c.args.world c.args.sorts.now c.args.row.now c.args.place (omega arith) ∙ all_fails (size_at k.sizes sort) c.loop-element.element test (omega arith) (implies_false _ _ (sym c.if-exists.ensures.cell) (sym next ∙ sym c.if-not-rows_pass.ensures.passes)))
 
 pub returns-then-not-rows_pass-clause-kept : goal.returns-then-not-rows_pass-clause-kept
 returns-then-not-rows_pass-clause-kept t c = kept-set c.loop-element.row c.rows_pass.new.row c.args.row.now c.args.place c.loop-element.element c.rows_pass.ensures.kept c.loop-element.invariant.kept
@@ -41,6 +41,6 @@ loop-element-preserved t c =
       }
       | else-exists w ↦ record {
         kept = ap (take c.args.place) w.row-is ∙ c.loop-element.invariant.kept;
-        passed = all_more c.loop-element.element test c.loop-element.invariant.passed (implies_true _ _ (λ e. absurd (both_ways _ (sym w.if-exists.ensures) e)));
+        passed = all_more c.loop-element.element test c.loop-element.invariant.passed (implies_true _ _ (λ e. absurd (both_ways _ (sym w.if-exists.ensures.cell) e)));
       }
     ]

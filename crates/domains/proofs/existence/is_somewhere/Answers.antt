@@ -7,4 +7,4 @@ pub returns-then-exists : goal.returns-then-exists
 returns-then-exists c =
     let k = c.args.kripke.now in
     let there = λ (w : ℕ). exists_in k c.args.sort w c.args.element in
-    sym (any_found k.worlds c.loop-world.world there (omega arith) (sym c.if-exists.ensures))
+    sym (any_found k.worlds c.loop-world.world there (omega arith) (sym c.if-exists.ensures.cell))

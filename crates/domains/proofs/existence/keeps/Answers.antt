@@ -9,4 +9,4 @@ pub returns-then-not-exists : goal.returns-then-not-exists
 returns-then-not-exists c =
     let k = c.args.kripke.now in
     let kept = λ (a : ℕ). implies (exists_in k c.args.sort c.args.first a) (exists_in k c.args.sort c.args.second a) in
-    sym (all_fails (size_at k.sizes c.args.sort) c.loop-element.element kept (omega arith) (implies_false _ _ (sym c.if-exists.ensures) (sym c.if-not-exists.ensures)))
+    sym (all_fails (size_at k.sizes c.args.sort) c.loop-element.element kept (omega arith) (implies_false _ _ (sym c.if-exists.ensures.cell) (sym c.if-not-exists.ensures.cell)))

@@ -8,7 +8,7 @@ use Rattle.numbered_definitions.specs.declared.node.Node as node
 use Rattle.numbered_definitions.specs.NamedForm.{NodeQuant, NodeModal}
 use Rattle.formula_cells.specs.Expressions.{span_of}
 use Rattle.formula_cells.specs.Stored.{IsPart, AreParts, node_at, term_at}
-use Rattle.formula_cells.proofs.ReadingLemmas.{good_read, node_read}
+use Rattle.formula_cells.proofs.CallerLemmas.{good_read, node_read}
 use Rattle.kripke_evaluation_definitions.specs.Fitting.{Fits}
 use Rattle.kripke_evaluation_definitions.specs.NumberedDepth.{node_depth, nodes_depth}
 use Rattle.kripke_evaluation_definitions.specs.NumberedMeaning.{node_value, node_sat}

@@ -7,7 +7,7 @@ use Rattle.numbered_definitions.specs.declared.node.NTerm.{NTerm}
 use Rattle.numbered_definitions.specs.declared.node.NTerm as term
 use Rattle.formula_cells.specs.Expressions.{span_of}
 use Rattle.formula_cells.specs.Stored.{IsArgument, AreArguments, term_at}
-use Rattle.formula_cells.proofs.ReadingLemmas.{good_read, term_read}
+use Rattle.formula_cells.proofs.CallerLemmas.{good_read, term_read}
 use Rattle.kripke_evaluation_definitions.specs.NumberedMeaning.{node_value}
 use Rattle.kripke_evaluation_definitions.specs.NumberedDepth.{term_depth, terms_depth}
 use Rattle.kripke_evaluation_definitions.specs.Fitting.{TermFits}

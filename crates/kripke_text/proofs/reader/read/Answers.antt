@@ -1,7 +1,7 @@
 use Rattle.std.proofs.Common.{◌≡◌, All, length, ap, sym, ◌∙◌, subst}
 use Rattle.std.specs.Prelude.{IfOk, IfErr}
 use Rattle.tptp_lex.specs.Lexing.{IsSpan}
-use Rattle.tptp_lex.proofs.Spans.{within}
+use Rattle.tptp_lex.proofs.CallerLemmas.{within}
 use Rattle.plain_tokens.specs.PlainTokens.{plains_of}
 use Rattle.kripke_text_definitions.specs.TokenStatements.{statements}
 use Rattle.kripke_text_definitions.specs.Reading.{Explains}

@@ -1,6 +1,6 @@
 use Rattle.std.proofs.Common.{◌≡◌, get_or, arith}
 use Rattle.std.proofs.lemmas.List.{drop_all}
-use Rattle.fin_struct.proofs.PlacesLemmas.{count_step}
+use Rattle.fin_struct.proofs.CallerLemmas.{count_step}
 use Rattle.kripke_text.proofs.rows.count_rows.Goals as goal
 
 pub loop-size-preserved : goal.loop-size-preserved

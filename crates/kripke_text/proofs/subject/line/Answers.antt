@@ -36,5 +36,5 @@ returns-in-Existence c =
     let row = c.args.row.now in
     let has = existence_has c.args.over.now view c.args.subject s c.requires.within c.requires.over c.in-Existence.is c.requires.subject_in in
     let pair = existence_pair c.args.over.now view c.args.subject s row c.requires.within c.requires.over c.in-Existence.is c.requires.subject_in c.requires.row_in in
-    pair_said (table_of view (Existence s)) view.worlds (size_at view.sizes s) row c.exists.result c.chosen-in-Existence.result pair (exists_said view s (get_or row 0 0) (get_or row 1 0) c.exists.result has c.exists.ensures) c.chosen-in-Existence.ensures
+    pair_said (table_of view (Existence s)) view.worlds (size_at view.sizes s) row c.exists.result c.chosen-in-Existence.result pair (exists_said view s (get_or row 0 0) (get_or row 1 0) c.exists.result has c.exists.ensures.cell) c.chosen-in-Existence.ensures
     ∙ ap (λ x. shown (table_of view x).values (cell (table_of view x) row)) (sym c.in-Existence.is)

@@ -2,7 +2,7 @@ use Rattle.std.proofs.Common.{◌<◌, ◌≤◌, length, ap, sym, ◌∙◌, ar
 use Rattle.std.specs.List.{fold}
 use Rattle.nxf_tree.specs.Rows.{all_rows}
 use Rattle.fin_struct.specs.Places.{rows_count}
-use Rattle.fin_struct.proofs.RowListsLemmas.{length-all_rows}
+use Rattle.fin_struct.proofs.CallerLemmas.{length-all_rows}
 use Rattle.kripke_text.specs.steps.Lines.{shown}
 use Rattle.kripke_text.specs.steps.Subjects.{label_of, table_of}
 use Rattle.kripke_text.proofs.LinesLaw.{lines_next, none_next, lines_end}

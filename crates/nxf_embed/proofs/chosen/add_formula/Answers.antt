@@ -1,5 +1,5 @@
 use Rattle.std.proofs.Common.{◌≤◌, ◌<◌, length, ◌∙◌, sym, arith}
-use Rattle.nxf_translate.proofs.TermCases.{named-at}
+use Rattle.nxf_translate.proofs.CallerLemmas.{named-at}
 use Rattle.nxf_embed.proofs.Choosing.{step-none, step-later, step-own}
 use Rattle.nxf_embed.proofs.chosen.add_formula.Goals as goal
 

@@ -1,8 +1,8 @@
 use Rattle.std.proofs.Common.{rules, arith, sym, ◌∙◌}
 use Rattle.std.proofs.lemmas.Grind.{common_steps}
 use Rattle.syntax_definitions.specs.steps.ReadFormulas.{term, terms_from}
-use Rattle.nxf_terminals.proofs.Turns.{one_more, no_more}
-use Rattle.syntax_definitions.proofs.Refusals.{no_argument}
+use Rattle.nxf_terminals.proofs.CallerLemmas.{one_more, no_more}
+use Rattle.syntax_definitions.proofs.CallerLemmas.{no_argument}
 use Rattle.nxf_formulas.proofs.parser.+term.Goals as goal
 
 pub arguments-returns-then-left-eq0 : goal.arguments-returns-then-left-eq0

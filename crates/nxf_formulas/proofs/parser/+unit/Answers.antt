@@ -1,8 +1,8 @@
 use Rattle.std.proofs.Common.{rules, arith}
 use Rattle.std.proofs.lemmas.Grind.{common_steps}
 use Rattle.syntax_definitions.specs.steps.ReadFormulas.{unit, units, units_from}
-use Rattle.nxf_terminals.proofs.Turns.{one_more, no_more}
-use Rattle.syntax_definitions.proofs.Refusals.{no_group, unit_is}
+use Rattle.nxf_terminals.proofs.CallerLemmas.{one_more, no_more}
+use Rattle.syntax_definitions.proofs.CallerLemmas.{no_group, unit_is}
 use Rattle.nxf_formulas.proofs.parser.+unit.Goals as goal
 
 pub group-returns-then-left-eq0 : goal.group-returns-then-left-eq0

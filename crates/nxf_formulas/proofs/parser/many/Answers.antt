@@ -1,5 +1,5 @@
 use Rattle.std.proofs.Common.{arith}
-use Rattle.syntax_definitions.proofs.Refusals.{no_many}
+use Rattle.syntax_definitions.proofs.CallerLemmas.{no_many}
 use Rattle.nxf_formulas.proofs.parser.many.Goals as goal
 
 pub returns-then-left-eq0 : goal.returns-then-left-eq0

@@ -103,11 +103,11 @@ loop-statement-preserved g t c =
     let next = c.in-Some.ensures.steps.0 ∙ ap (λ s. s ∷ rest) c.in-Annotated.is in (
       tt,
       tt,
-      adds_annotated _ (c.args.levels - 1) c.loop-statement.statements c.loop-statement.sum _ _ (files_of (map g.L.Library.shelf c.args.libraries.now)) _ _ _ _ c.loop-statement.invariant.2 next c.in-Ok.ensures,
+      adds_annotated _ (c.args.levels - 1) c.loop-statement.statements c.loop-statement.sum _ _ (files_of (map g.L.Library.shelf c.args.libraries.now)) _ _ _ _ c.loop-statement.invariant.2 next c.in_ok-add-in-Annotated.ensures,
       c.loop-statement.invariant.3,
-      annotated_fine c.loop-statement.statements _ _ rest _ _ _ c.in-Ok.ensures next c.loop-statement.invariant.4 c.loop-statement.invariant.5,
+      annotated_fine c.loop-statement.statements _ _ rest _ _ _ c.in_ok-add-in-Annotated.ensures next c.loop-statement.invariant.4 c.loop-statement.invariant.5,
       rest_read _ rest _ next c.loop-statement.invariant.5,
-      annotated_weight c.args.sum c.loop-statement.sum c.loop-statement.statements _ _ rest _ c.in-Ok.ensures next c.loop-statement.invariant.6,
+      annotated_weight c.args.sum c.loop-statement.sum c.loop-statement.statements _ _ rest _ c.in_ok-add-in-Annotated.ensures next c.loop-statement.invariant.6,
       c.loop-statement.invariant.7,
     )
 

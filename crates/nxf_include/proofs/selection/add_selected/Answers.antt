@@ -8,13 +8,13 @@ pub returns-in-Some-missing : goal.returns-in-Some-missing
 returns-in-Some-missing c =
     let names = c.as_slice-names.result.now in
     selected_not c.args.file.now c.args.names.now names c.args.statements (c.in-Some.is ∙ ap Some (sym c.as_slice-names.ensures)) c.in-Some-missing.name.now c.no_such_name.result
-    (c.in-Some-missing.ensures (filter (is_listed names) c.args.statements) c.in-Ok-add_listed.ensures.found) c.no_such_name.ensures
+    (c.in-Some-missing.ensures (filter (is_listed names) c.args.statements) c.in_ok-found.ensures.found) c.no_such_name.ensures
 
-pub returns-in-Ok-add_listed : goal.returns-in-Ok-add_listed
-returns-in-Ok-add_listed c =
+pub returns : goal.returns
+returns c =
     let names = c.as_slice-names.result.now in (
       filter (is_listed names) c.args.statements,
       selected_ok c.args.file.now c.args.names.now names c.args.statements (c.in-Some.is ∙ ap Some (sym c.as_slice-names.ensures))
-          (c.in-None.ensures (filter (is_listed names) c.args.statements) c.in-Ok-add_listed.ensures.found),
-      c.in-Ok-add_listed.ensures.added,
+          (c.in-None.ensures (filter (is_listed names) c.args.statements) c.in_ok-found.ensures.found),
+      c.in_ok-found.ensures.added,
     )

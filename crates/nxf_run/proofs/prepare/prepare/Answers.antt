@@ -1,6 +1,6 @@
 use Rattle.std.proofs.Common.{sym, ◌∙◌}
 use mathlib.Core.Logic.{inl}
-use Rattle.nxf_include.proofs.Callers.{Keeps-same}
+use Rattle.nxf_include.proofs.CallerLemmas.{Keeps-same}
 use Rattle.nxf_run.specs.Answer.{no_form, later}
 use Rattle.nxf_run.proofs.Reading.{named, name_translates, name_refused, no_command, later_command}
 use Rattle.nxf_run.proofs.prepare.prepare.Goals as goal

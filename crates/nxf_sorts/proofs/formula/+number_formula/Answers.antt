@@ -11,8 +11,7 @@ use Rattle.numbered_definitions.specs.declared.node.Node as node
 use Rattle.numbered_definitions.specs.NamedForm.{NodeNot, NodePair, NodeQuant, NodeModal, named_forms}
 use Rattle.formula_cells.specs.Stored.{Stored, node_at, term_at}
 use Rattle.formula_cells.specs.Putting.{Puts, PutsAll}
-use Rattle.formula_cells.proofs.GrowingLemmas.{grows_twice, node_kept}
-use Rattle.formula_cells.proofs.PuttingLemmas.{puts_more, puts_push}
+use Rattle.formula_cells.proofs.CallerLemmas.{grows_twice, node_kept, puts_more, puts_push}
 use Rattle.nxf_sorts.specs.steps.Scope.{Scope, variables, bound_in}
 use Rattle.nxf_sorts.specs.steps.Numbering.{IsFault, IsScope, NumbersFormula, KnowsIndexes, KnowsAllIndexes, formulas_faults}
 use Rattle.nxf_sorts.proofs.UseLemmas.{fault_first, fault_is, refused_with}

@@ -11,7 +11,7 @@ use Rattle.nxf_tree.specs.Sorting.{modal_language}
 use Rattle.nxf_tree.specs.SortFaults.{term_fault, arguments_fault}
 use Rattle.formula_cells.specs.Stored.{term_at}
 use Rattle.formula_cells.specs.Putting.{PutsTerm, PutsTerms}
-use Rattle.formula_cells.proofs.PuttingLemmas.{puts_term_here, puts_term_more, puts_term_push}
+use Rattle.formula_cells.proofs.CallerLemmas.{puts_term_here, puts_term_more, puts_term_push}
 use Rattle.nxf_sorts.specs.steps.Scope.{variables, bound_in}
 use Rattle.nxf_sorts.specs.steps.Numbering.{IsFault, NumbersTerm, NumbersArgument, NumbersTerms}
 use Rattle.nxf_sorts.proofs.UseLemmas.{fault_is, refused_with}

@@ -1,7 +1,7 @@
 use Rattle.std.proofs.Common.{sym, subst}
 use Rattle.numbered_definitions.specs.declared.node.NTerm.{NTerm}
 use Rattle.formula_cells.specs.Stored.{term_at}
-use Rattle.formula_cells.proofs.GrowingLemmas.{grows_twice, term_kept, term_at_kept}
+use Rattle.formula_cells.proofs.CallerLemmas.{grows_twice, term_kept, term_at_kept}
 use Rattle.nxf_sorts.specs.steps.Numbering.{NumbersTerm}
 use Rattle.nxf_sorts.proofs.UseLemmas.{fault_first, fault_then, fault_is, refused_with}
 use Rattle.nxf_sorts.proofs.TermLemmas.{sides_apart, sides_alike}

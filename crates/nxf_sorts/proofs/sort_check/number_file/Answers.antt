@@ -7,7 +7,7 @@ use Rattle.nxf_tree.specs.Sorting.{modal_language}
 use Rattle.nxf_tree.specs.Occurrences.{declared}
 use Rattle.nxf_tree.specs.SignatureOf.{signature_of}
 use Rattle.nxf_tree.specs.SortFaults.{SortFault, type_statement_fault, formula_statement_fault, overrides_fault}
-use Rattle.nxf_signatures.proofs.Noted.{type_first}
+use Rattle.nxf_signatures.proofs.CallerLemmas.{type_first}
 use Rattle.formula_cells.specs.Stored.{formulas_in}
 use Rattle.nxf_sorts.specs.steps.Numbering.{IsGoodSignature}
 use Rattle.nxf_sorts.specs.steps.Statements.{NumbersFile}

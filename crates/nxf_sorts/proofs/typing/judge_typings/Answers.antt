@@ -6,7 +6,7 @@ use Rattle.nxf_tree.specs.Faults.{first_fault}
 use Rattle.nxf_tree.specs.Sorting.{modal_language}
 use Rattle.nxf_tree.specs.SortFaults.{type_statement_fault}
 use Rattle.name_laws.proofs.Appended.{declared-append}
-use Rattle.nxf_signatures.proofs.Lookups.{sort_texts-append}
+use Rattle.nxf_signatures.proofs.CallerLemmas.{sort_texts-append}
 use Rattle.nxf_sorts.proofs.UseLemmas.{fault_is}
 use Rattle.nxf_sorts.proofs.TypingLemmas.{statement_is, fine_here, refused_here}
 use Rattle.nxf_sorts.proofs.typing.judge_typings.Goals as goal

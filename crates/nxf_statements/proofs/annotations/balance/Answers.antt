@@ -1,6 +1,6 @@
 use Rattle.std.proofs.Common.{rules, arith, ◌∙◌}
 use Rattle.std.proofs.lemmas.Grind.{common_steps}
-use Rattle.syntax_definitions.proofs.Balances.{balance_is, balance_at_end}
+use Rattle.syntax_definitions.proofs.CallerLemmas.{balance_is, balance_at_end}
 use Rattle.nxf_statements.proofs.annotations.balance.Goals as goal
 
 pub returns-then-is_last : goal.returns-then-is_last

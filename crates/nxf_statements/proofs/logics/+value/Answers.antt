@@ -2,8 +2,8 @@ use Rattle.std.proofs.Common.{rules, arith}
 use Rattle.std.proofs.lemmas.Grind.{common_steps}
 use Rattle.syntax_definitions.specs.steps.ReadLists.{list_from}
 use Rattle.syntax_definitions.specs.steps.ReadLogic.{item_of, inner_entry}
-use Rattle.nxf_terminals.proofs.Turns.{one_more, no_more}
-use Rattle.syntax_definitions.proofs.Levels.{value_is}
+use Rattle.nxf_terminals.proofs.CallerLemmas.{one_more, no_more}
+use Rattle.syntax_definitions.proofs.CallerLemmas.{value_is}
 use Rattle.nxf_statements.proofs.logics.+value.Goals as goal
 
 pub value-returns : goal.value-returns

@@ -2,7 +2,7 @@ use Rattle.std.proofs.Common.{rules, arith}
 use Rattle.std.proofs.lemmas.Grind.{common_steps}
 use Rattle.syntax_definitions.specs.steps.ReadLists.{list_from}
 use Rattle.syntax_definitions.specs.steps.ReadLogic.{entry_with, value_of}
-use Rattle.nxf_terminals.proofs.Turns.{one_more, no_more}
+use Rattle.nxf_terminals.proofs.CallerLemmas.{one_more, no_more}
 use Rattle.nxf_statements.proofs.logics.entries.Goals as goal
 
 pub returns-in_err-entry : goal.returns-in_err-entry

@@ -2,7 +2,7 @@ use Rattle.std.proofs.Common.{rules, arith}
 use Rattle.std.proofs.lemmas.Grind.{common_steps}
 use Rattle.syntax_definitions.specs.steps.ReadLists.{list_from}
 use Rattle.syntax_definitions.specs.steps.ReadFormulas.{index_text}
-use Rattle.nxf_terminals.proofs.Turns.{one_more, no_more}
+use Rattle.nxf_terminals.proofs.CallerLemmas.{one_more, no_more}
 use Rattle.nxf_statements.proofs.statements.labels.Goals as goal
 
 pub returns-in_err-index_text : goal.returns-in_err-index_text

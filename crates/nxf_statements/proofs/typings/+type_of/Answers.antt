@@ -1,4 +1,4 @@
-use Rattle.syntax_definitions.proofs.Levels.{type_is}
+use Rattle.syntax_definitions.proofs.CallerLemmas.{type_is}
 use Rattle.nxf_statements.proofs.typings.+type_of.Goals as goal
 
 pub type_of-returns : goal.type_of-returns

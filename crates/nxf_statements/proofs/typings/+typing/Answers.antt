@@ -1,4 +1,4 @@
-use Rattle.syntax_definitions.proofs.Levels.{typing_is}
+use Rattle.syntax_definitions.proofs.CallerLemmas.{typing_is}
 use Rattle.nxf_statements.proofs.typings.+typing.Goals as goal
 
 pub typing-returns : goal.typing-returns

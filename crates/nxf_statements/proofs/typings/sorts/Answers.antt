@@ -1,7 +1,7 @@
 use Rattle.std.proofs.Common.{rules, arith}
 use Rattle.std.proofs.lemmas.Grind.{common_steps}
 use Rattle.syntax_definitions.specs.steps.ReadTypings.{sorts_from}
-use Rattle.nxf_terminals.proofs.Turns.{one_more, no_more}
+use Rattle.nxf_terminals.proofs.CallerLemmas.{one_more, no_more}
 use Rattle.nxf_statements.proofs.typings.sorts.Goals as goal
 
 pub returns-in_err-sort_name : goal.returns-in_err-sort_name

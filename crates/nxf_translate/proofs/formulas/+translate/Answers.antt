@@ -10,7 +10,7 @@ use Rattle.nxf_tree.specs.Embedding.{st}
 use Rattle.numbered_definitions.specs.declared.node.Node as node
 use Rattle.formula_cells.specs.Expressions.{span_of}
 use Rattle.formula_cells.specs.Stored.{IsPart, AreParts, node_at, term_at}
-use Rattle.formula_cells.proofs.ReadingLemmas.{good_read, node_read, part_within}
+use Rattle.formula_cells.proofs.CallerLemmas.{good_read, node_read, part_within}
 use Rattle.nxf_translate.specs.steps.Forms.{HasForm, IsForm}
 use Rattle.nxf_translate.specs.steps.Place.{term_of}
 use Rattle.nxf_translate.proofs.Options.{made}

@@ -8,7 +8,7 @@ use Rattle.numbered_definitions.specs.declared.node.NTerm as numbered
 use Rattle.numbered_definitions.specs.NamedForm.{named_term}
 use Rattle.formula_cells.specs.Expressions.{span_of}
 use Rattle.formula_cells.specs.Stored.{IsArgument, AreArguments, term_at}
-use Rattle.formula_cells.proofs.ReadingLemmas.{good_read, term_read, argument_within}
+use Rattle.formula_cells.proofs.CallerLemmas.{good_read, term_read, argument_within}
 use Rattle.nxf_translate.specs.steps.Forms.{HasTerm}
 use Rattle.nxf_translate.specs.steps.Place.{term_of}
 use Rattle.nxf_translate.proofs.Members.{term-member}

@@ -21,7 +21,7 @@ made : (c : In_ok-grid) → lifted c.args.over.now c.args.structure.now ≡ reco
 }
 made c =
     made-lifted c.args.over.now c.args.structure.now c.size-worlds.result c.actual-actual.result c.in_ok-sizes.sizes.items c.len-indexes.result c.in_ok-numbers.numbers.existence.items c.in_ok-numbers.numbers.first_symbol c.in_ok-world_first.world_first.items c.in_ok-grid.grid
-    c.size-worlds.ensures.size c.actual-actual.ensures (c.in_ok-sizes.ensures ∙ c.other_sizes.ensures ∙ ap others_of c.sizes.ensures) c.len-indexes.ensures
+    c.size-worlds.ensures.size c.actual-actual.ensures.actual (c.in_ok-sizes.ensures ∙ c.other_sizes.ensures ∙ ap others_of c.sizes.ensures) c.len-indexes.ensures
     (rw (c.as_slice.ensures, c.len-indexes.ensures) at c.in_ok-numbers.ensures.existence) (rw (c.as_slice.ensures, c.len-indexes.ensures) at c.in_ok-numbers.ensures.first_symbol) (c.in_ok-world_first.ensures ∙ ap (map takes_world) c.as_slice-2.ensures) (c.in_ok-grid.ensures ∙ c.tables.ensures)
 
 known : (c : In_ok-grid) → Lifts c.args.over.now c.args.structure.now
