@@ -1,5 +1,5 @@
 -- Cells with their kids, names and roots, the formulas that they stand for, and when they are in order.
-use Rattle.std.specs.Prelude.{◌≡◌, ℕ, ◌+◌, ◌<◌, ◌≤◌, Bool, true, false, nat_eq, List, map, length, slice_index_or}
+use Rattle.std.specs.Prelude.{◌≡◌, ℕ, ◌+◌, ◌<◌, ◌≤◌, Bool, true, false, nat_eq, List, [], ◌∷◌, ◌++◌, map, length, slice_index_or}
 use Rattle.std.specs.List.{All, IsDistinct}
 use Rattle.std.specs.Cmp.Lexicographic.{pointwise}
 use Rattle.numbered_definitions.specs.declared.node.NTerm.{NTerm}
@@ -10,7 +10,7 @@ use Rattle.formula_cells.specs.declared.cell.Span.{Span}
 use Rattle.formula_cells.specs.declared.cell.Cell.{Cell}
 use Rattle.formula_cells.specs.declared.cell.Cell.TheVariants.{True, False, Atom, Same, Differ, Not, And, Or, Pair, Quant, Modal, Bound, App}
 use Rattle.formula_cells.specs.declared.root.Root.{Root}
-use Rattle.formula_cells.specs.Expressions.{Expression, OfFormula, expressions, node_in, term_in, span_of}
+use Rattle.formula_cells.specs.Expressions.{Expression, OfFormula, expression, expressions, as_node, as_term, node_in, term_in, span_of}
 
 -- the cells, the numbers of cells that spans are stretches of, the names, and the formulas of a file
 pub record Stored : Type 0 where
@@ -23,7 +23,10 @@ pub record Stored : Type 0 where
 abbrev pub expressions_of : Stored → List Expression
 expressions_of s = expressions s.kids s.names s.cells
 
--- what the cell with a number stands for
+-- what a cell of them stands for, and the one with a number
+abbrev pub expression_of : Stored → Cell → Expression
+expression_of s c = expression s.kids s.names (expressions_of s) c
+
 abbrev pub expression_at : Stored → ℕ → Expression
 expression_at s k = slice_index_or (expressions_of s) k (OfFormula node.True)
 
@@ -41,8 +44,22 @@ root_of place label cell = record { place = place; label = label; cell = cell }
 abbrev pub formula_of : List Expression → Root → Numbered
 formula_of es r = record { place = r.place; name = r.label; node = node_in es r.cell }
 
+abbrev pub formula_in : Stored → Root → Numbered
+formula_in s r = formula_of (expressions_of s) r
+
 abbrev pub formulas_in : Stored → List Numbered
 formulas_in s = map (formula_of (expressions_of s)) s.roots
+
+-- the same cells with one more formula of the file
+abbrev pub with_root : Stored → Root → Stored
+with_root s r = record s { roots = s.roots ++ r ∷ [] }
+
+-- the formula, or the term, of a cell that comes behind the others, and its parts behind the kids
+abbrev pub node_behind : Stored → List ℕ → Cell → Node
+node_behind s parts c = as_node (expression (s.kids ++ parts) s.names (expressions_of s) c)
+
+abbrev pub term_behind : Stored → List ℕ → Cell → NTerm
+term_behind s args c = as_term (expression (s.kids ++ args) s.names (expressions_of s) c)
 
 abbrev pub cell_in : List Cell → ℕ → Cell
 cell_in cells k = slice_index_or cells k True

@@ -5,8 +5,8 @@ ghost use Rattle.std.specs.Option.{option_map};
 ghost use Rattle.std.specs.Vec.{vec_len, vec_capacity};
 ghost use Rattle.std.specs.Cmp.Lexicographic.{pointwise};
 ghost use Rattle.numbered_definitions.specs.NamedForm.{NodeQuant};
-ghost use Rattle.formula_cells.specs.Expressions.{expression, name_in, span_of};
-ghost use Rattle.formula_cells.specs.Stored.{root_of, formula_of, Stored, cell_in, IsCell, expressions_of, expression_at, formulas_in, IsFormula, node_at};
+ghost use Rattle.formula_cells.specs.Expressions.{name_in, span_of};
+ghost use Rattle.formula_cells.specs.Stored.{root_of, with_root, Stored, cell_in, IsCell, expression_of, expression_at, formula_in, formulas_in, IsFormula, node_at};
 ghost use Rattle.formula_cells.specs.Putting.{AddsCell, AddsNode, IsNumber};
 
 use crate::cell::{Cell, Span};
@@ -143,7 +143,7 @@ impl Cells {
         requires { at < length self.now.cells }
         ensures value { result.now ≡ cell_in self.now.cells at }
         ensures good { IsCell self.now.cells self.now.kids self.now.names at result.now }
-        ensures stands { expression_at self.now at ≡ expression self.now.kids self.now.names (expressions_of self.now) result.now }
+        ensures stands { expression_at self.now at ≡ expression_of self.now result.now }
     {
         &self.cells[at]
     }
@@ -180,9 +180,8 @@ impl Cells {
     /// that stands for it. Where there is no memory for it, all stays as it is.
     pub fn add(&mut self, place: u32, label: Text, cell: usize) -> Result<(), Memory>
         requires { IsFormula self.old cell }
-        ensures added { let root = root_of place label cell in
-            OnOk result (formulas_in self.new ≡ formulas_in self.old ++ formula_of (expressions_of self.old) root ∷ []) }
-        ensures alone { let root = root_of place label cell in OnOk result (self.new ≡ record self.old { roots = self.old.roots ++ root ∷ [] }) }
+        ensures added { OnOk result (formulas_in self.new ≡ formulas_in self.old ++ formula_in self.old (root_of place label cell) ∷ []) }
+        ensures alone { OnOk result (self.new ≡ with_root self.old (root_of place label cell)) }
         ensures unchanged { OnErr result (self.new ≡ self.old) }
     {
         self.roots.push(Root { place, label, cell })?;

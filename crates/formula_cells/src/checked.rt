@@ -5,8 +5,8 @@ ghost use Rattle.std.specs.List.{All};
 ghost use Rattle.std.specs.Option.{option_map};
 ghost use Rattle.nxf_tree.specs.WellFormed.{IsWellFormed};
 ghost use Rattle.numbered_definitions.specs.NamedForm.{IsSortedFormula};
-ghost use Rattle.formula_cells.specs.Expressions.{expression, name_in, span_of};
-ghost use Rattle.formula_cells.specs.Stored.{cell_in, IsCell, expressions_of, expression_at, formulas_in, IsFormula, node_at};
+ghost use Rattle.formula_cells.specs.Expressions.{name_in, span_of};
+ghost use Rattle.formula_cells.specs.Stored.{cell_in, IsCell, expression_of, expression_at, formulas_in, IsFormula, node_at};
 ghost use Rattle.formula_cells.specs.Checked.{GreatestDepth, IsChecked};
 
 use crate::cell::{Cell, Span};
@@ -101,8 +101,7 @@ impl Checked {
         requires { at < length self.now.stored.cells }
         ensures value { result.now ≡ cell_in self.now.stored.cells at }
         ensures good { IsCell self.now.stored.cells self.now.stored.kids self.now.stored.names at result.now }
-        ensures stands { let stored = self.now.stored in
-            expression_at stored at ≡ expression stored.kids stored.names (expressions_of stored) result.now }
+        ensures stands { expression_at self.now.stored at ≡ expression_of self.now.stored result.now }
     {
         self.cells.cell(at)
     }

@@ -4,8 +4,7 @@ ghost use Rattle.std.specs.List.{All};
 ghost use Rattle.numbered_definitions.specs.declared.node.Node as node;
 ghost use Rattle.numbered_definitions.specs.declared.node.NTerm as term;
 ghost use Rattle.numbered_definitions.specs.NamedForm.{NodeNot, NodePair, NodeModal};
-ghost use Rattle.formula_cells.specs.Expressions.{expression, as_node, as_term};
-ghost use Rattle.formula_cells.specs.Stored.{IsCell, is_term, expressions_of, IsFormula, IsTerm, node_at, term_at};
+ghost use Rattle.formula_cells.specs.Stored.{IsCell, is_term, IsFormula, IsTerm, node_at, term_at, node_behind, term_behind};
 ghost use Rattle.formula_cells.specs.Putting.{AddsNode, AddsTerm};
 
 use crate::cell::Cell;
@@ -18,7 +17,7 @@ impl Cells {
     fn put_node(&mut self, cell: Cell, parts: &[usize]) -> Result<usize, Memory>
         requires good { IsCell self.old.cells (self.old.kids ++ parts.now) self.old.names (length self.old.cells) cell }
         requires kind { is_term cell ≡ false }
-        ensures put { IfOk result (λ at. AddsNode self.old self.new at (as_node (expression (self.old.kids ++ parts.now) self.old.names (expressions_of self.old) cell))) }
+        ensures put { IfOk result (λ at. AddsNode self.old self.new at (node_behind self.old parts.now cell)) }
         ensures unchanged { OnErr result (self.new ≡ self.old) }
     {
         self.push(cell, parts)
@@ -28,7 +27,7 @@ impl Cells {
     fn put_term(&mut self, cell: Cell, args: &[usize]) -> Result<usize, Memory>
         requires good { IsCell self.old.cells (self.old.kids ++ args.now) self.old.names (length self.old.cells) cell }
         requires kind { is_term cell ≡ true }
-        ensures put { IfOk result (λ at. AddsTerm self.old self.new at (as_term (expression (self.old.kids ++ args.now) self.old.names (expressions_of self.old) cell))) }
+        ensures put { IfOk result (λ at. AddsTerm self.old self.new at (term_behind self.old args.now cell)) }
         ensures unchanged { OnErr result (self.new ≡ self.old) }
     {
         self.push(cell, args)
