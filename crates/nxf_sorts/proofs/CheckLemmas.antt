@@ -1,6 +1,7 @@
 -- The steps of the sort check, and what they say of the whole.
 use Rattle.std.proofs.Common.{◌≡◌, ℕ, suc, ◌≤◌, true, List, [], ◌∷◌, ◌++◌, length, Option, None, Some, refl, sym, ap, ◌∙◌, subst, arith}
-use Rattle.std.specs.Prelude.{max}
+use Rattle.std.specs.Prelude.{max, Result, Ok, Err}
+use Rattle.std.specs.Result.{IsErrAnd}
 use Rattle.std.specs.Option.{option_map, option_or}
 use Rattle.std.specs.List.{list_all, All}
 use Rattle.std.proofs.lemmas.Bool.{and_parts}
@@ -20,7 +21,7 @@ use Rattle.nxf_sorts.specs.declared.error.SortError.TheVariants.{Kind, Memory}
 use Rattle.numbered_definitions.specs.declared.node.Numbered.{Numbered}
 use Rattle.numbered_definitions.specs.NamedForm.{both, FormulaStatement, named_form, named, all_named, formulas_from, IsSortedFormula}
 use Rattle.formula_cells.specs.Checked.{deepest}
-use Rattle.nxf_sorts.specs.Judging.{IsFileFault}
+use Rattle.nxf_sorts.specs.Judging.{IsFileFault, JudgesFile}
 
 pub list_depth_after : (ss : List Statement) (s : Statement) → statement_list_depth (ss ++ s ∷ []) ≡ max (statement_list_depth ss) (statement_depth s)
 list_depth_after [] s = omega arith
@@ -44,6 +45,11 @@ file_then o p e none h = subst (λ q. IsFileFault q e) (sym (ap (λ q. option_or
 
 pub file_is : (o p : Option (ℕ × SortFault)) (e : SortError) → o ≡ p → IsFileFault p e → IsFileFault o e
 file_is o p e is h = subst (λ q. IsFileFault q e) (sym is) h
+
+-- a call ends with the fault that a call in it ended with
+pub refused_by : {X : Type 0} (r : Result X SortError) (o : Option (ℕ × SortFault)) (e : SortError) → IsErrAnd r (λ (x : SortError). x ≡ e) → IsFileFault o e → JudgesFile o r
+refused_by (Ok x) o e is h = absurd is
+refused_by (Err x) o e is h = subst (IsFileFault o) (sym is) h
 
 -- the numbered formulas of a well-sorted file are well sorted
 abbrev AllSorted : Signature → List FormulaStatement → Type 0

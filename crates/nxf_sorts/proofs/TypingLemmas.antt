@@ -1,6 +1,7 @@
 -- Type statements are judged by the tables of what is declared before them.
 use Rattle.std.proofs.Common.{◌≡◌, ℕ, suc, ◌+◌, List, [], ◌∷◌, ◌++◌, Option, None, Some, refl, sym, ap, ◌∙◌, subst, arith}
-use Rattle.std.specs.Prelude.{◌||◌, map, if◌then◌else◌, is_some, Result}
+use Rattle.std.specs.Prelude.{◌||◌, map, if◌then◌else◌, is_some, Result, Ok, Err}
+use Rattle.std.specs.Result.{IsErrAnd}
 use Rattle.std.specs.Option.{option_map, option_or}
 use Rattle.std.specs.List.{list_any}
 use Rattle.indexmap.specs.IndexSet.{insert_all}
@@ -29,6 +30,7 @@ use Rattle.nxf_signatures.proofs.CallerLemmas.{texts_noted, symbols_noted, type_
 use Rattle.nxf_sorts.specs.declared.error.SortError.{SortError}
 use Rattle.nxf_sorts.specs.declared.fault.Fault.{Fault}
 use Rattle.nxf_sorts.specs.Judging.{Judges, IsFileFault, typing_after, statement_after}
+use Rattle.nxf_sorts.specs.steps.Numbering.{IsFault}
 
 any_has : (f : List ℕ) (xs : List (List ℕ)) → list_any (same_text f) xs ≡ has same_text f xs
 any_has f [] = refl
@@ -92,6 +94,11 @@ module _ (judge : List Statement → Statement → Option SortFault) (k : ℕ) (
 -- the judge's answer on equal faults
 pub judges_is : (o p : Option SortFault) (r : Result (Unit {0}) Fault) → o ≡ p → Judges p r → Judges o r
 judges_is o p r is h = subst (λ q. Judges q r) (sym is) h
+
+-- a judge ends with the fault that a judge in it ended with
+pub judges_with : (r : Result (Unit {0}) Fault) (o : Option SortFault) (e : Fault) → IsErrAnd r (λ (x : Fault). x ≡ e) → IsFault o e → Judges o r
+judges_with (Ok x) o e is h = absurd is
+judges_with (Err x) o e is h = subst (IsFault o) (sym is) h
 
 pub or_none : (o : Option SortFault) → option_or o None ≡ o
 or_none None = refl

@@ -1,14 +1,12 @@
 //! Formulas become numbers.
 
-ghost use Rattle.std.specs.Prelude.{◌≡◌, MatchResult, OnOk, MatchOption, ◌∷◌, true, false, Some};
+ghost use Rattle.std.specs.Prelude.{◌≡◌, OnOk, MatchOption, ◌∷◌, true, Some};
 ghost use Rattle.nxf_base.specs.declared.status.SortKind.TheVariants.{UnknownSort};
 ghost use Rattle.nxf_tree.specs.Sorting.{modal_language};
 ghost use Rattle.nxf_tree.specs.Shapes.{Quant1, Modal1};
-ghost use Rattle.nxf_tree.specs.SortFaults.{formula_fault, sort_text};
+ghost use Rattle.nxf_tree.specs.SortFaults.{sort_text};
 ghost use Rattle.numbered_definitions.specs.NamedForm.{index_name};
-ghost use Rattle.formula_cells.specs.Putting.{Puts, PutsAll};
-ghost use Rattle.nxf_sorts.specs.steps.Scope.{bound_in};
-ghost use Rattle.nxf_sorts.specs.steps.Numbering.{IsFault, IsGoodSignature, IsScope, FindsNumber, NumbersFormula, NumbersFormulas, formulas_faults};
+ghost use Rattle.nxf_sorts.specs.steps.Numbering.{IsFault, IsGoodSignature, IsScope, HasNoSort, FindsNumber, PutsFormula, PutsFormulas};
 
 use crate::binders::Binders;
 use crate::fault::{Fault, fault_of};
@@ -31,7 +29,7 @@ pub fn unknown_sort(alloc: Global, sort: &SortName) -> Fault
 
 /// The number of a sort, or None where the file has not got it.
 pub fn found_sort(names: &Names, sort: &SortName) -> Option<u32>
-    ensures { MatchOption result ((modal_language names.now.signature).knows_sort sort.now ≡ false) (λ k. FindsNumber names.now.signature sort.now k) }
+    ensures { MatchOption result (HasNoSort names.now.signature sort.now) (FindsNumber names.now.signature sort.now) }
 {
     names.sort(sort)
 }
@@ -57,8 +55,7 @@ fn number_atom(
 ) -> Result<usize, Fault>
     requires good { IsGoodSignature names.now.signature }
     requires scope { IsScope names.now.signature binders.now }
-    ensures { MatchResult result (λ at. Puts (NumbersFormula names.now.signature names.now.declared binders.now (Formula.Atom name.now terms.now)) cells.old cells.new at)
-        (λ e. IsFault (formula_fault (modal_language names.now.signature) names.now.declared (bound_in names.now.signature binders.now) (Formula.Atom name.now terms.now)) e) }
+    ensures { PutsFormula names.now binders.now (Formula.Atom name.now terms.now) cells.old cells.new result }
 {
     let (number, sorts) = used_predicate(alloc, names, name, terms.len())?;
     let args = number_terms(
@@ -85,8 +82,7 @@ pub fn number_formula(
 ) -> Result<usize, Fault>
     requires good { IsGoodSignature names.now.signature }
     requires scope { IsScope names.now.signature binders.old }
-    ensures value { MatchResult result (λ at. Puts (NumbersFormula names.now.signature names.now.declared binders.old formula.now) cells.old cells.new at)
-        (λ e. IsFault (formula_fault (modal_language names.now.signature) names.now.declared (bound_in names.now.signature binders.old) formula.now) e) }
+    ensures value { PutsFormula names.now binders.old formula.now cells.old cells.new result }
     ensures kept { OnOk result (binders.new ≡ binders.old) }
 {
     match formula {
@@ -166,8 +162,7 @@ fn number_quantified(
 ) -> Result<usize, Fault>
     requires good { IsGoodSignature names.now.signature }
     requires scope { IsScope names.now.signature binders.old }
-    ensures value { MatchResult result (λ at. Puts (NumbersFormula names.now.signature names.now.declared binders.old (Quant1 quantifier name.now sort.now body.now)) cells.old cells.new at)
-        (λ e. IsFault (formula_fault (modal_language names.now.signature) names.now.declared (bound_in names.now.signature binders.old) (Quant1 quantifier name.now sort.now body.now)) e) }
+    ensures value { PutsFormula names.now binders.old (Quant1 quantifier name.now sort.now body.now) cells.old cells.new result }
     ensures kept { OnOk result (binders.new ≡ binders.old) }
 {
     match found_sort(names, sort) {
@@ -193,8 +188,7 @@ fn number_under(
 ) -> Result<usize, Fault>
     requires good { IsGoodSignature names.now.signature }
     requires scope { IsScope names.now.signature ((name.now, sort) ∷ binders.old) }
-    ensures value { MatchResult result (λ at. Puts (NumbersFormula names.now.signature names.now.declared ((name.now, sort) ∷ binders.old) body.now) cells.old cells.new at)
-        (λ e. IsFault (formula_fault (modal_language names.now.signature) names.now.declared (bound_in names.now.signature ((name.now, sort) ∷ binders.old)) body.now) e) }
+    ensures value { PutsFormula names.now ((name.now, sort) ∷ binders.old) body.now cells.old cells.new result }
     ensures kept { OnOk result (binders.new ≡ binders.old) }
 {
     binders.enter(alloc, name, sort)?;
@@ -215,8 +209,7 @@ fn number_modal(
 ) -> Result<usize, Fault>
     requires good { IsGoodSignature names.now.signature }
     requires scope { IsScope names.now.signature binders.old }
-    ensures value { MatchResult result (λ at. Puts (NumbersFormula names.now.signature names.now.declared binders.old (Modal1 mode index.now body.now)) cells.old cells.new at)
-        (λ e. IsFault (formula_fault (modal_language names.now.signature) names.now.declared (bound_in names.now.signature binders.old) (Modal1 mode index.now body.now)) e) }
+    ensures value { PutsFormula names.now binders.old (Modal1 mode index.now body.now) cells.old cells.new result }
     ensures kept { OnOk result (binders.new ≡ binders.old) }
 {
     let number = found_index(names, index);
@@ -236,8 +229,7 @@ fn number_formulas(
 ) -> Result<List<usize>, Fault>
     requires good { IsGoodSignature names.now.signature }
     requires scope { IsScope names.now.signature binders.old }
-    ensures value { MatchResult result (λ parts. PutsAll (NumbersFormulas names.now.signature names.now.declared binders.old formulas.now) cells.old cells.new parts)
-        (λ e. IsFault (formulas_faults names.now.signature names.now.declared binders.old formulas.now) e) }
+    ensures value { PutsFormulas names.now binders.old formulas.now cells.old cells.new result }
     ensures kept { OnOk result (binders.new ≡ binders.old) }
 {
     let mut parts = room(alloc, formulas.len())?;

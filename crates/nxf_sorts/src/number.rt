@@ -1,12 +1,7 @@
 //! Terms become numbers.
 
-ghost use Rattle.std.specs.Prelude.{◌≡◌, ◌++◌, ◌∷◌, [], OnOk, IfOk, IfErr, MatchResult, map, true, false, Some, None};
-ghost use Rattle.nxf_tree.specs.Sorting.{modal_language};
-ghost use Rattle.nxf_tree.specs.SortFaults.{symbol_fault, term_fault, arguments_fault, equation_fault};
-ghost use Rattle.nxf_tree.specs.Signature.{sort_at};
-ghost use Rattle.nxf_sorts.specs.steps.Scope.{bound_in};
-ghost use Rattle.formula_cells.specs.Putting.{PutsTerm, PutsTerms};
-ghost use Rattle.nxf_sorts.specs.steps.Numbering.{IsFault, IsGoodSignature, IsScope, wrong_symbol, Uses, argument_fault, NumbersTerm, NumbersArgument, NumbersTerms, NumbersSides, PutsSides};
+ghost use Rattle.std.specs.Prelude.{◌≡◌, ◌++◌, ◌∷◌, [], OnOk, IfOk, IfErr, MatchResult, true, false, Some, None};
+ghost use Rattle.nxf_sorts.specs.steps.Numbering.{IsFault, IsGoodSignature, IsScope, wrong_symbol, FindsUse, use_fault, PutsSortedTerm, PutsArgument, PutsArguments, PutsEquation};
 ghost use Rattle.nxf_tree.specs.Sorting as sorting;
 ghost use Rattle.std.specs.List.{list_all};
 
@@ -34,10 +29,7 @@ pub fn room<T>(alloc: Global, count: usize) -> Result<List<T>, Fault>
     ensures empty { IfOk result (λ list. list ≡ []) }
     ensures refused { IfErr result (λ fault. fault ≡ Fault.Memory) }
 {
-    match List::with_capacity(alloc, count) {
-        Ok(list) => Ok(list),
-        Err(Memory) => Err(Fault::Memory),
-    }
+    Ok(List::with_capacity(alloc, count)?)
 }
 
 /// The fault of a symbol that is used in another way than its own.
@@ -59,8 +51,7 @@ fn used_function<'a>(
     count: usize,
 ) -> Result<(u32, &'a List<u32>, u32), Fault>
     requires { IsGoodSignature names.now.signature }
-    ensures { MatchResult result (λ p. Uses names.now.signature names.now.declared name.now count (Some p.2) p.0 p.1.now)
-        (λ e. IsFault (symbol_fault (modal_language names.now.signature) names.now.declared name.now count true) e) }
+    ensures { MatchResult result (λ p. FindsUse names.now name.now count (Some p.2) p.0 p.1.now) (IsFault (use_fault names.now name.now count true)) }
 {
     if names.has_sort(name) {
         return Err(fault_of(alloc, SortKind::DoubleName, name.bytes()));
@@ -88,8 +79,7 @@ pub fn used_predicate<'a>(
     count: usize,
 ) -> Result<(u32, &'a List<u32>), Fault>
     requires { IsGoodSignature names.now.signature }
-    ensures { MatchResult result (λ p. Uses names.now.signature names.now.declared name.now count None p.0 p.1.now)
-        (λ e. IsFault (symbol_fault (modal_language names.now.signature) names.now.declared name.now count false) e) }
+    ensures { MatchResult result (λ p. FindsUse names.now name.now count None p.0 p.1.now) (IsFault (use_fault names.now name.now count false)) }
 {
     if names.has_sort(name) {
         return Err(fault_of(alloc, SortKind::DoubleName, name.bytes()));
@@ -120,8 +110,7 @@ pub fn number_term(
 ) -> Result<(usize, u32), Fault>
     requires good { IsGoodSignature names.now.signature }
     requires scope { IsScope names.now.signature binders.now }
-    ensures { MatchResult result (λ p. PutsTerm (λ n. NumbersTerm names.now.signature names.now.declared binders.now term.now n p.1) cells.old cells.new p.0)
-        (λ e. IsFault (term_fault (modal_language names.now.signature) names.now.declared (bound_in names.now.signature binders.now) term.now) e) }
+    ensures { PutsSortedTerm names.now binders.now term.now cells.old cells.new result }
 {
     match term {
         Term::Var(name) => match binders.find(name) {
@@ -162,8 +151,7 @@ fn number_argument(
     requires good { IsGoodSignature names.now.signature }
     requires scope { IsScope names.now.signature binders.now }
     requires wanted { sorting.in_range names.now.signature.sorts wanted ≡ true }
-    ensures { MatchResult result (λ at. PutsTerm (NumbersArgument names.now.signature names.now.declared binders.now of.now wanted term.now) cells.old cells.new at)
-        (λ e. IsFault (argument_fault names.now.signature names.now.declared binders.now of.now wanted term.now) e) }
+    ensures { PutsArgument names.now binders.now of.now wanted term.now cells.old cells.new result }
 {
     let (argument, sort) = number_term(alloc, names, binders, cells, term)?;
     if sort == wanted {
@@ -187,8 +175,7 @@ pub fn number_terms(
     requires good { IsGoodSignature names.now.signature }
     requires scope { IsScope names.now.signature binders.now }
     requires sorts { list_all (sorting.in_range names.now.signature.sorts) sorts.now ≡ true }
-    ensures { MatchResult result (λ args. PutsTerms (NumbersTerms names.now.signature names.now.declared binders.now of.now (map (sort_at names.now.signature.sorts) sorts.now) terms.now) cells.old cells.new args)
-        (λ e. IsFault (arguments_fault (modal_language names.now.signature) names.now.declared (bound_in names.now.signature binders.now) of.now (map (sort_at names.now.signature.sorts) sorts.now) terms.now) e) }
+    ensures { PutsArguments names.now binders.now of.now sorts.now terms.now cells.old cells.new result }
 {
     let mut args = room(alloc, terms.len())?;
     let mut at = 0;
@@ -214,8 +201,7 @@ pub fn number_sides(
 ) -> Result<(usize, usize), Fault>
     requires good { IsGoodSignature names.now.signature }
     requires scope { IsScope names.now.signature binders.now }
-    ensures { MatchResult result (λ p. PutsSides (NumbersSides names.now.signature names.now.declared binders.now left.now right.now) cells.old cells.new p.0 p.1)
-        (λ e. IsFault (equation_fault (modal_language names.now.signature) names.now.declared (bound_in names.now.signature binders.now) left.now right.now) e) }
+    ensures { PutsEquation names.now binders.now left.now right.now cells.old cells.new result }
 {
     let (a, s) = number_term(alloc, names, binders, cells, left.get())?;
     let (b, t) = number_term(alloc, names, binders, cells, right.get())?;

@@ -1,6 +1,6 @@
 //! The sort check of a file.
 
-ghost use Rattle.std.specs.Prelude.{◌≡◌, ◌-◌, ◌^◌, ◌<◌, min, max, length, MatchResult, IfOk, Ok, None, Some};
+ghost use Rattle.std.specs.Prelude.{◌≡◌, ◌-◌, ◌^◌, ◌<◌, min, max, length, IfOk, Ok, Some};
 ghost use Rattle.nxf_tree.specs.FileDepth.{statement_depth, statement_list_depth};
 ghost use Rattle.nxf_tree.specs.Occurrences.{declared};
 ghost use Rattle.nxf_tree.specs.SignatureOf.{firsts, same_symbol, signature_of};
@@ -14,7 +14,7 @@ ghost use Rattle.nxf_tree.specs.Regular.{IsRegular};
 ghost use Rattle.nxf_tree.specs.Profiles.{allowed_in};
 ghost use Rattle.numbered_definitions.specs.NamedForm.{all_named, formulas_of};
 ghost use Rattle.formula_cells.specs.Stored.{formulas_in};
-ghost use Rattle.nxf_sorts.specs.Judging.{IsFileFault};
+ghost use Rattle.nxf_sorts.specs.Judging.{JudgesFile};
 
 use crate::error::SortError;
 use crate::overrides::judge_overrides;
@@ -22,7 +22,6 @@ use crate::statements::number_statements;
 use crate::typing::judge_typings;
 use formula_cells::{Cells, Checked};
 use logic_spec::Spec;
-use nxf_base::Memory;
 use nxf_signatures::Names;
 use nxf_tree::{Body, File, Statement};
 use std::alloc::Global;
@@ -67,20 +66,14 @@ fn number_file(alloc: Global, names: &Names, file: &File, spec: &Spec) -> Result
     requires signature { names.now.signature ≡ signature_of (asked_by spec.now) file.now }
     requires declared { names.now.declared ≡ firsts same_symbol (declared file.now.statements) }
     requires few { length file.now.statements < 2 ^ 31 }
-    ensures { MatchResult result (λ cells. (sort_fault_of (asked_by spec.now) file.now ≡ None) × (all_named (signature_of (asked_by spec.now) file.now) (formulas_in cells) ≡ Some (formulas_of file.now)))
-        (λ e. IsFileFault (sort_fault_of (asked_by spec.now) file.now) e) }
+    ensures judged { JudgesFile (sort_fault_of (asked_by spec.now) file.now) result }
+    ensures formulas { IfOk result (λ cells. all_named names.now.signature (formulas_in cells) ≡ Some (formulas_of file.now)) }
 {
     let statements = file.statements.as_slice();
-    match judge_typings(alloc, names, statements) {
-        Err(error) => Err(error),
-        Ok(()) => match number_statements(alloc, names, statements) {
-            Err(error) => Err(error),
-            Ok(cells) => match judge_overrides(alloc, names, spec.place(), spec.overrides()) {
-                Err(error) => Err(error),
-                Ok(()) => Ok(cells),
-            },
-        },
-    }
+    judge_typings(alloc, names, statements)?;
+    let cells = number_statements(alloc, names, statements)?;
+    judge_overrides(alloc, names, spec.place(), spec.overrides())?;
+    Ok(cells)
 }
 
 /// The sort check: formulas with numbers for names, over the signature of the file; or the first fault of its type
@@ -90,21 +83,13 @@ pub fn check(alloc: Global, file: &File, spec: &Spec) -> Result<Checked, SortErr
     requires spec { spec_of file.now ≡ Ok (asked_by spec.now) }
     requires regular { IsRegular (allowed_in profiles.Problem) file.now }
     requires weight { file_weight file.now < 2 ^ 31 }
-    ensures judged { let fault = sort_fault_of (asked_by spec.now) file.now in MatchResult result (λ c. fault ≡ None) (IsFileFault fault) }
+    ensures judged { JudgesFile (sort_fault_of (asked_by spec.now) file.now) result }
     ensures signature { IfOk result (λ c. c.signature ≡ signature_of (asked_by spec.now) file.now) }
     ensures well_formed { IfOk result (λ c. IsWellFormed c.signature) }
     ensures formulas { IfOk result (λ c. all_named c.signature c.formulas ≡ Some (formulas_of file.now)) }
 {
-    let names = match Names::of(alloc, file, spec) {
-        Ok(names) => names,
-        Err(Memory) => return Err(SortError::Memory),
-    };
-    match number_file(alloc, &names, file, spec) {
-        Err(error) => Err(error),
-        Ok(cells) => Ok(Checked::new(
-            names.into_signature(),
-            cells,
-            greatest_depth(file.statements.as_slice()),
-        )),
-    }
+    let names = Names::of(alloc, file, spec)?;
+    let cells = number_file(alloc, &names, file, spec)?;
+    let depth = greatest_depth(file.statements.as_slice());
+    Ok(Checked::new(names.into_signature(), cells, depth))
 }

@@ -1,13 +1,8 @@
 //! The formulas of a file become numbers.
 
-ghost use Rattle.std.specs.Prelude.{[], ◌<◌, ◌^◌, length, MatchResult};
-ghost use Rattle.nxf_tree.specs.Sorting.{modal_language};
-ghost use Rattle.nxf_tree.specs.Faults.{first_fault};
-ghost use Rattle.nxf_tree.specs.SortFaults.{formula_fault, formula_statement_fault};
-ghost use Rattle.formula_cells.specs.Stored.{formulas_in};
-ghost use Rattle.nxf_sorts.specs.steps.Numbering.{IsFault, IsGoodSignature};
-ghost use Rattle.nxf_sorts.specs.Judging.{IsFileFault};
-ghost use Rattle.nxf_sorts.specs.steps.Statements.{Adds, NumbersStatement, NumbersFile};
+ghost use Rattle.std.specs.Prelude.{◌<◌, ◌^◌, length};
+ghost use Rattle.nxf_sorts.specs.steps.Numbering.{IsGoodSignature};
+ghost use Rattle.nxf_sorts.specs.steps.Statements.{AddsFormula, AddsStatement, NumbersStatements};
 
 use crate::binders::Binders;
 use crate::error::{SortError, at_statement};
@@ -29,8 +24,7 @@ fn number_whole(
     cells: &mut Cells,
 ) -> Result<(), Fault>
     requires { IsGoodSignature names.now.signature }
-    ensures { MatchResult result (λ u. Adds names.now.signature names.now.declared place name.now formula.now (formulas_in cells.old) (formulas_in cells.new))
-        (λ e. IsFault (formula_fault (modal_language names.now.signature) names.now.declared [] formula.now) e) }
+    ensures { AddsFormula names.now place name.now formula.now cells.old cells.new result }
 {
     let mut binders = Binders::new(alloc);
     let cell = number_formula(alloc, names, &mut binders, cells, formula)?;
@@ -47,8 +41,7 @@ fn number_statement(
     cells: &mut Cells,
 ) -> Result<(), Fault>
     requires { IsGoodSignature names.now.signature }
-    ensures { MatchResult result (λ u. NumbersStatement names.now.signature names.now.declared place statement.now (formulas_in cells.old) (formulas_in cells.new))
-        (λ e. IsFault (formula_statement_fault (modal_language names.now.signature) names.now.declared statement.now) e) }
+    ensures { AddsStatement names.now place statement.now cells.old cells.new result }
 {
     match statement {
         Statement::Annotated {
@@ -72,8 +65,7 @@ pub fn number_statements(
 ) -> Result<Cells, SortError>
     requires good { IsGoodSignature names.now.signature }
     requires few { length statements.now < 2 ^ 31 }
-    ensures { MatchResult result (λ cells. NumbersFile names.now.signature names.now.declared statements.now (formulas_in cells))
-        (λ e. IsFileFault (first_fault (λ before s. formula_statement_fault (modal_language names.now.signature) names.now.declared s) 1 [] statements.now) e) }
+    ensures { NumbersStatements names.now statements.now result }
 {
     let mut cells = Cells::new(alloc);
     let mut place = 0;

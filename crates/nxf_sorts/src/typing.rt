@@ -7,13 +7,13 @@ ghost use Rattle.nxf_tree.specs.Signature as signature;
 ghost use Rattle.nxf_tree.specs.Sorting.{modal_language};
 ghost use Rattle.nxf_tree.specs.Faults.{first_fault};
 ghost use Rattle.nxf_tree.specs.SortFaults as faults;
-ghost use Rattle.nxf_tree.specs.SortFaults.{gives_list, unknown_sorts, declared_again, type_statement_fault};
-ghost use Rattle.nxf_sorts.specs.Judging.{Judges, JudgesFile, typing_after, statement_after};
+ghost use Rattle.nxf_tree.specs.SortFaults.{gives_list, unknown_sorts, type_statement_fault};
+ghost use Rattle.nxf_sorts.specs.Judging.{Judges, JudgesFile, type_after, typing_after, statement_after};
 
 use crate::error::{SortError, at_statement};
 use crate::fault::{Fault, fault_of};
 use crate::formula::{found_sort, unknown_sort};
-use nxf_base::{List, Memory, SortKind, Text};
+use nxf_base::{List, SortKind, Text};
 use nxf_signatures::{Declarations, Names, SymbolType};
 use nxf_tree::{Body, SortName, Statement, Typing};
 use std::alloc::Global;
@@ -78,10 +78,7 @@ fn judge_sorts(alloc: Global, names: &Names, sorts: &List<SortName>) -> Result<(
     ensures { Judges (unknown_sorts (modal_language names.now.signature) sorts.now) result }
 {
     for sort in sorts.as_slice() {
-        match judge_sort(alloc, names, sort) {
-            Err(error) => return Err(error),
-            Ok(()) => {}
-        }
+        judge_sort(alloc, names, sort)?;
     }
     Ok(())
 }
@@ -95,12 +92,10 @@ fn judge_type(
 ) -> Result<(), Fault>
     ensures { Judges (unknown_sorts (modal_language names.now.signature) (args.now ++ gives_list gives.now)) result }
 {
-    match judge_sorts(alloc, names, args) {
-        Err(error) => Err(error),
-        Ok(()) => match gives {
-            Some(sort) => judge_sort(alloc, names, sort),
-            None => Ok(()),
-        },
+    judge_sorts(alloc, names, args)?;
+    match gives {
+        Some(sort) => judge_sort(alloc, names, sort),
+        None => Ok(()),
     }
 }
 
@@ -113,7 +108,7 @@ fn judge_again(
     args: &List<SortName>,
     gives: &Option<SortName>,
 ) -> Result<(), Fault>
-    ensures { Judges (declared_again (modal_language names.now.signature) name.now (record { args = args.now; gives = gives.now }) (option_copied earlier.entry)) result }
+    ensures { Judges (type_after names.now name.now args.now gives.now (option_copied earlier.entry)) result }
 {
     match earlier {
         None => judge_type(alloc, names, args, gives),
@@ -189,10 +184,7 @@ pub fn judge_typings(
         place += 1;
         match judge_statement(alloc, names, &before, statement) {
             Err(fault) => return Err(at_statement(fault, place)),
-            Ok(()) => match before.note(alloc, statement) {
-                Ok(()) => {}
-                Err(Memory) => return Err(SortError::Memory),
-            },
+            Ok(()) => before.note(alloc, statement)?,
         }
     }
     Ok(())

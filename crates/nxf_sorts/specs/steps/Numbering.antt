@@ -1,5 +1,5 @@
 -- What numbering gives: a numbered term or formula of the given one, which has no fault; or the first fault.
-use Rattle.std.specs.Prelude.{◌≡◌, ℕ, true, if◌then◌else◌, List, [], ◌∷◌, map, length, Option, None, Some, is_some}
+use Rattle.std.specs.Prelude.{◌≡◌, ℕ, Bool, true, false, if◌then◌else◌, List, [], ◌∷◌, map, length, Option, None, Some, is_some, Result, MatchResult}
 use Rattle.std.specs.Option.{option_map, option_or}
 use Rattle.std.specs.List.{list_all}
 use Rattle.nxf_base.specs.declared.status.SortKind.TheVariants.{DoubleName, Mismatch}
@@ -20,7 +20,8 @@ use Rattle.numbered_definitions.specs.declared.node.NTerm.{NTerm}
 use Rattle.numbered_definitions.specs.declared.node.Node.{Node}
 use Rattle.numbered_definitions.specs.NamedForm.{symbol_name, named_term, sort_name, named_terms, named_form, named_forms}
 use Rattle.formula_cells.specs.Stored.{Stored, IsTerm, term_at}
-use Rattle.formula_cells.specs.Putting.{Grows}
+use Rattle.formula_cells.specs.Putting.{Grows, Puts, PutsTerm, PutsAll, PutsTerms}
+use Rattle.nxf_signatures.specs.Naming.{Naming}
 use Rattle.nxf_sorts.specs.steps.Scope.{Scope, variables, bound_in}
 
 -- the error is this fault, or there was no memory
@@ -96,7 +97,10 @@ pub record NumbersFormulas (sig : Signature) (us : List Use) (bs : Scope) (fs : 
   pub no_fault : formulas_faults sig us bs fs ≡ None
   pub named : KnowsAllIndexes sig fs → named_forms sig (variables bs) ns ≡ Some fs
 
--- the sort has the number k
+-- the signature has not got the sort, or it has the number k
+abbrev pub HasNoSort : Signature → SortName → Type 0
+HasNoSort sig s = (modal_language sig).knows_sort s ≡ false
+
 pub record FindsNumber (sig : Signature) (s : SortName) (k : ℕ) : Type 0 where
   pub known : (modal_language sig).knows_sort s ≡ true
   pub name : sort_name sig k ≡ Some s
@@ -109,3 +113,44 @@ pub record PutsSides (P : NTerm → NTerm → Type 0) (old new : Stored) (a b : 
   pub left : IsTerm new a
   pub right : IsTerm new b
   pub holds : P (term_at new a) (term_at new b)
+
+-- Calls that are given the names of a file. A symbol is used rightly with so many arguments, or has this fault.
+abbrev pub FindsUse : Naming → List ℕ → ℕ → Option ℕ → ℕ → List ℕ → Type 0
+FindsUse names f count gives k args = Uses names.signature names.declared f count gives k args
+
+abbrev pub use_fault : Naming → List ℕ → ℕ → Bool → Option SortFault
+use_fault names f count of_function = symbol_fault (modal_language names.signature) names.declared f count of_function
+
+-- cells come behind the old ones that stand for the term, whose sort has the number beside it; or the error is the term's first fault
+abbrev pub PutsSortedTerm : Naming → Scope → Term → Stored → Stored → Result (ℕ × ℕ) Fault → Type 0
+PutsSortedTerm names bs t old new r =
+    MatchResult r (λ p. PutsTerm (λ n. NumbersTerm names.signature names.declared bs t n p.1) old new p.0)
+    (IsFault (term_fault (modal_language names.signature) names.declared (bound_in names.signature bs) t))
+
+-- the same for an argument of the symbol f, of the sort with the number s
+abbrev pub PutsArgument : Naming → Scope → List ℕ → ℕ → Term → Stored → Stored → Result ℕ Fault → Type 0
+PutsArgument names bs f s t old new r =
+    MatchResult r (PutsTerm (NumbersArgument names.signature names.declared bs f s t) old new) (IsFault (argument_fault names.signature names.declared bs f s t))
+
+-- the same for all its arguments, of the sorts with these numbers
+abbrev pub PutsArguments : Naming → Scope → List ℕ → List ℕ → List Term → Stored → Stored → Result (List ℕ) Fault → Type 0
+PutsArguments names bs f sorts ts old new r =
+    let wanted = map (sort_at names.signature.sorts) sorts in
+    MatchResult r (PutsTerms (NumbersTerms names.signature names.declared bs f wanted ts) old new)
+    (IsFault (arguments_fault (modal_language names.signature) names.declared (bound_in names.signature bs) f wanted ts))
+
+-- the same for two terms of one sort
+abbrev pub PutsEquation : Naming → Scope → Term → Term → Stored → Stored → Result (ℕ × ℕ) Fault → Type 0
+PutsEquation names bs t u old new r =
+    MatchResult r (λ p. PutsSides (NumbersSides names.signature names.declared bs t u) old new p.0 p.1)
+    (IsFault (equation_fault (modal_language names.signature) names.declared (bound_in names.signature bs) t u))
+
+-- the same for a formula, and for formulas from left to right
+abbrev pub PutsFormula : Naming → Scope → Formula → Stored → Stored → Result ℕ Fault → Type 0
+PutsFormula names bs f old new r =
+    MatchResult r (Puts (NumbersFormula names.signature names.declared bs f) old new)
+    (IsFault (formula_fault (modal_language names.signature) names.declared (bound_in names.signature bs) f))
+
+abbrev pub PutsFormulas : Naming → Scope → List Formula → Stored → Stored → Result (List ℕ) Fault → Type 0
+PutsFormulas names bs fs old new r =
+    MatchResult r (PutsAll (NumbersFormulas names.signature names.declared bs fs) old new) (IsFault (formulas_faults names.signature names.declared bs fs))

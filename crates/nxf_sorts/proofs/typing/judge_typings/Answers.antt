@@ -37,7 +37,7 @@ loop-statement-preserved c =
           ∙ ap (first_fault J (c.loop-statement.place + 1) (take i ss)) split
           ∙ fine_here J (c.loop-statement.place + 1) (take i ss) s (drop (i + 1) ss) (sym same ∙ c.in-Ok.ensures)
           ∙ ap (λ l. first_fault J (c.loop-statement.place + 1 + 1) l (drop (i + 1) ss)) (sym more);
-      sorts = rw (more, sort_texts-append, fold-append, ← c.loop-statement.invariant.sorts) c.in-Ok-note.ensures.sorts;
-      symbols = rw (more, declared-append, fold-append, ← c.loop-statement.invariant.symbols) c.in-Ok-note.ensures.symbols;
+      sorts = rw (more, sort_texts-append, fold-append, ← c.loop-statement.invariant.sorts) c.in_ok-note-in-Ok.ensures.sorts;
+      symbols = rw (more, declared-append, fold-append, ← c.loop-statement.invariant.symbols) c.in_ok-note-in-Ok.ensures.symbols;
       place = ap (λ k. k + 1) c.loop-statement.invariant.place;
     }
