@@ -1,15 +1,12 @@
 //! The evaluator.
 ghost use Rattle.std.specs.Prelude.{◌≡◌, ℕ, ◌<◌, ◌≤◌, [], length, IfOk, Some};
-ghost use Rattle.std.specs.Option.{option_map};
-ghost use Rattle.nxf_tree.specs.Kripke.{sat};
 ghost use Rattle.fin_struct.specs.KripkeTables.{IsKripkeFor};
 ghost use Rattle.formula_cells.specs.Checked.{GreatestDepth};
 ghost use Rattle.formula_cells.specs.Stored.{IsFormula, node_at};
-ghost use Rattle.kripke_evaluation_definitions.specs.FileConditions.{model_of};
 ghost use Rattle.kripke_evaluation_definitions.specs.Fitting.{Fits as NodeFits};
 ghost use Rattle.kripke_evaluation_definitions.specs.NumberedDepth.{node_depth};
 ghost use Rattle.kripke_evaluation_definitions.specs.NumberedMeaning.{node_sat};
-ghost use Rattle.kripke_eval.specs.Evaluating.{HasRoomAt, HasRoomForAll, formula_at};
+ghost use Rattle.kripke_eval.specs.Evaluating.{HasRoomAt, HasRoomForAll, truth_at};
 
 use crate::formulas::holds_at;
 use crate::here::Here;
@@ -72,8 +69,7 @@ impl Eval {
         requires at { at < length checked.now.formulas }
         requires world_in { world < view.now.worlds }
         requires room { HasRoomAt self.old checked.now at }
-        ensures value { let model = model_of checked.now.signature view.now in
-            option_map (sat model world []) (formula_at checked.now at) ≡ Some result }
+        ensures value { truth_at checked.now view.now world at ≡ Some result }
         ensures kept { self.new ≡ self.old }
     {
         let worlds = view.worlds();

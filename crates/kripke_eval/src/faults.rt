@@ -1,20 +1,17 @@
 //! The first premise or conjecture that keeps a structure from being a countermodel.
-ghost use Rattle.std.specs.Prelude.{◌≡◌, ℕ, ◌+◌, ◌<◌, ◌≤◌, [], length, slice_get, IfOk, IfErr, Some};
+ghost use Rattle.std.specs.Prelude.{◌≡◌, ◌≤◌, ◌<◌, [], length, slice_get, IfOk, IfErr, Some};
 ghost use Rattle.std.specs.Option.{option_map};
-ghost use Rattle.nxf_tree.specs.declared.tree.Signature.{Signature};
-ghost use Rattle.nxf_tree.specs.declared.tree.File.{File};
 ghost use Rattle.nxf_tree.specs.Counting.{all_below};
 ghost use Rattle.nxf_tree.specs.Parts as roles;
-ghost use Rattle.fin_struct.specs.FirstFault.{IsFirstFailing};
 ghost use Rattle.fin_struct.specs.KripkeTables.{IsKripkeFor};
 ghost use Rattle.formula_cells.specs.ReadAs.{OfItsFile};
 ghost use Rattle.formula_cells.specs.Stored.{IsFormula, node_at};
 ghost use Rattle.kripke_evaluation_definitions.specs.FileConditions as asked;
-ghost use Rattle.kripke_evaluation_definitions.specs.FileConditions.{meets_by_file, part_conditions, node_meets};
-ghost use Rattle.kripke_evaluation_definitions.specs.Fitting.{Fits as NodeFits};
+ghost use Rattle.kripke_evaluation_definitions.specs.FileConditions.{node_meets};
 ghost use Rattle.kripke_evaluation_definitions.specs.NumberedDepth.{node_depth};
 ghost use Rattle.kripke_evaluation_definitions.specs.NumberedMeaning.{node_sat, node_holds_in};
-ghost use Rattle.kripke_eval.specs.Evaluating.{HasRoomAt, HasRoomForAll};
+ghost use Rattle.kripke_eval.specs.Evaluating.{HasRoomAt, HasRoomForAll, IsFirstUnmet};
+ghost use Rattle.kripke_eval.specs.steps.Cells.{FitsEachWorld};
 ghost use Rattle.kripke_eval.specs.steps.Judging as spec;
 
 use crate::evaluator::Eval;
@@ -57,8 +54,7 @@ impl Eval {
     ) -> Option<Condition>
         requires over { IsKripkeFor checked.now.signature view.now }
         requires room { HasRoomForAll self.old checked.now }
-        ensures first { let first = λ (sig : Signature) (file : File). IsFirstFailing (meets_by_file sig file view.now) (part_conditions file) result in
-            OfItsFile checked.now parts.now first }
+        ensures first { OfItsFile checked.now parts.now (IsFirstUnmet view.now result) }
         ensures kept { self.new ≡ self.old }
     {
         let worlds = view.worlds();
@@ -111,10 +107,8 @@ impl Eval {
         requires room { HasRoomAt self.old checked.now at }
         requires within { next ≤ length parts.now }
         ensures within { IfOk result (λ after. after ≤ length parts.now) }
-        ensures passed { let unmet = spec.unmet_from view.now conjecture checked.now.formulas parts.now in
-            IfOk result (λ after. unmet at next ≡ unmet (at + 1) after) }
-        ensures fault { let unmet = spec.unmet_from view.now conjecture checked.now.formulas parts.now in
-            IfErr result (λ condition. unmet at next ≡ Some condition) }
+        ensures passed { IfOk result (spec.PassesOn view.now conjecture checked.now.formulas parts.now at next) }
+        ensures fault { IfErr result (spec.StopsWith view.now conjecture checked.now.formulas parts.now at next) }
         ensures kept { self.new ≡ self.old }
     {
         if next >= parts.len() {
@@ -168,8 +162,7 @@ impl Eval {
     ) -> bool
         requires formula { IsFormula checked.now.stored root }
         requires room { node_depth (node_at checked.now.stored root) ≤ self.old.depth }
-        requires fits { let fits = λ (w : ℕ). NodeFits view.now w [] (node_at checked.now.stored root) in
-            (w : ℕ) → w < view.now.worlds → fits w }
+        requires fits { FitsEachWorld view.now checked.now [] root }
         ensures value { result ≡ node_holds_in view.now scope (node_at checked.now.stored root) }
         ensures kept { self.new ≡ self.old }
     {
@@ -189,8 +182,7 @@ impl Eval {
     ) -> bool
         requires formula { IsFormula checked.now.stored root }
         requires room { node_depth (node_at checked.now.stored root) ≤ self.old.depth }
-        requires fits { let fits = λ (w : ℕ). NodeFits view.now w [] (node_at checked.now.stored root) in
-            (w : ℕ) → w < view.now.worlds → fits w }
+        requires fits { FitsEachWorld view.now checked.now [] root }
         ensures value { result ≡ all_below view.now.worlds (λ w. node_sat view.now w [] (node_at checked.now.stored root)) }
         ensures kept { self.new ≡ self.old }
     {

@@ -1,16 +1,10 @@
 //! Truth of formulas.
-ghost use Rattle.std.specs.Prelude.{◌≡◌, ℕ, ◌+◌, ◌*◌, ◌<◌, ◌≤◌, ◌&&◌, List, [], ◌∷◌, ◌++◌, length, map, max, nat_eq, take};
-ghost use Rattle.std.specs.List.{All as Each, list_any};
-ghost use Rattle.nxf_tree.specs.Counting.{any_below, same_truth};
+ghost use Rattle.std.specs.Prelude.{◌≡◌, ◌+◌, ◌*◌, ◌<◌, ◌≤◌, [], ◌∷◌, ◌++◌, length, map, take};
+ghost use Rattle.std.specs.List.{All as Each};
 ghost use Rattle.nxf_tree.specs.Kripke as meant;
-ghost use Rattle.nxf_tree.specs.Rows.{size_at};
-ghost use Rattle.fin_struct.specs.KripkeTables.{related_in, exists_in};
-ghost use Rattle.numbered_definitions.specs.declared.node.Node as node;
-ghost use Rattle.numbered_definitions.specs.NamedForm.{NodeQuant, NodeModal};
 ghost use Rattle.formula_cells.specs.Stored.{IsArgument, IsFormula, IsPart, IsTerm, node_at, term_at};
-ghost use Rattle.kripke_evaluation_definitions.specs.Fitting.{Fits as NodeFits, TermFits};
 ghost use Rattle.kripke_evaluation_definitions.specs.NumberedDepth.{term_depth, terms_depth, node_depth, nodes_depth};
-ghost use Rattle.kripke_evaluation_definitions.specs.NumberedMeaning.{node_value, node_sat};
+ghost use Rattle.kripke_eval.specs.steps.Cells.{have_same_value, sat_at, atom_holds, CellTermFits, CellFits, AtomFits, FitsEachElement, FitsEachWorld, some_has, any_element, any_world};
 
 use crate::here::Here;
 use crate::terms::{fill, value_at};
@@ -34,9 +28,8 @@ pub(crate) fn holds_at<L: Ledger>(
     requires world_in { here.world < here.view.now.worlds }
     requires depth { top + node_depth (node_at here.checked.now.stored at) ≤ length stack.old }
     requires room { 1000 * node_depth (node_at here.checked.now.stored at) ≤ length room.old }
-    requires fits { NodeFits here.view.now here.world (take top stack.old) (node_at here.checked.now.stored at) }
-    ensures value { let formula = node_at here.entry.checked.now.stored at in
-        result ≡ node_sat here.entry.view.now here.entry.world (take top stack.old) formula }
+    requires fits { CellFits here.view.now here.checked.now here.world (take top stack.old) at }
+    ensures value { result ≡ sat_at here.entry.view.now here.entry.checked.now here.entry.world (take top stack.old) at }
     ensures kept { take top stack.new ≡ take top stack.old }
 {
     match here.checked.cell(at) {
@@ -62,12 +55,14 @@ pub(crate) fn holds_at<L: Ledger>(
             let right = holds_at(here, *right, stack, top, room, steps);
             connect(*op, left, right)
         }
-        Cell::Quant(quantifier, sort, _, body) => {
-            quantified(here, *quantifier, *sort, *body, stack, top, room, steps)
-        }
-        Cell::Modal(mode, index, body) => {
-            modal(here, *mode, *index, *body, stack, top, room, steps)
-        }
+        Cell::Quant(quantifier, sort, _, body) => match quantifier {
+            Quantifier::All => !some_element(here, *sort, *body, false, stack, top, room, steps),
+            Quantifier::Exists => some_element(here, *sort, *body, true, stack, top, room, steps),
+        },
+        Cell::Modal(mode, index, body) => match mode {
+            Mode::Box => !some_world(here, *index, *body, false, stack, top, room, steps),
+            Mode::Dia => some_world(here, *index, *body, true, stack, top, room, steps),
+        },
         Cell::Bound(_) => unreachable!(),
         Cell::App(_, _) => unreachable!(),
     }
@@ -87,9 +82,8 @@ fn atom<L: Ledger>(
     requires terms { Each (IsArgument here.checked.now.stored.cells at) terms.now }
     requires world_in { here.world < here.view.now.worlds }
     requires room { 1000 * (terms_depth (map (term_at here.checked.now.stored) terms.now) + 1) ≤ length room.old }
-    requires fits { NodeFits here.view.now here.world stack.now (node.Atom symbol (map (term_at here.checked.now.stored) terms.now)) }
-    ensures { let formula = node.Atom symbol (map (term_at here.entry.checked.now.stored) terms.now) in
-        result ≡ node_sat here.entry.view.now here.entry.world stack.now formula }
+    requires fits { AtomFits here.view.now here.checked.now here.world stack.now symbol terms.now }
+    ensures { result ≡ atom_holds here.entry.view.now here.entry.checked.now here.entry.world stack.now symbol terms.now }
 {
     let (row, rest) = room.split_at_mut(1000);
     fill(here, at, terms, stack, row, rest, steps);
@@ -111,10 +105,9 @@ fn same<L: Ledger>(
     requires world_in { here.world < here.view.now.worlds }
     requires left_room { 1000 * term_depth (term_at here.checked.now.stored left) ≤ length room.old }
     requires right_room { 1000 * term_depth (term_at here.checked.now.stored right) ≤ length room.old }
-    requires left_fits { TermFits here.view.now here.world stack.now (term_at here.checked.now.stored left) }
-    requires right_fits { TermFits here.view.now here.world stack.now (term_at here.checked.now.stored right) }
-    ensures { let value = λ (n : ℕ). node_value here.entry.view.now here.entry.world stack.now (term_at here.entry.checked.now.stored n) in
-        result ≡ nat_eq (value left) (value right) }
+    requires left_fits { CellTermFits here.view.now here.checked.now here.world stack.now left }
+    requires right_fits { CellTermFits here.view.now here.checked.now here.world stack.now right }
+    ensures { result ≡ have_same_value here.entry.view.now here.entry.checked.now here.entry.world stack.now left right }
 {
     let left = value_at(here, left, stack, room, steps);
     let right = value_at(here, right, stack, room, steps);
@@ -152,10 +145,8 @@ fn some_part<L: Ledger>(
     requires world_in { here.world < here.view.now.worlds }
     requires depth { top + nodes_depth (map (node_at here.checked.now.stored) parts.now) ≤ length stack.old }
     requires room { 1000 * nodes_depth (map (node_at here.checked.now.stored) parts.now) ≤ length room.old }
-    requires fits { let fits = NodeFits here.view.now here.world (take top stack.old) in
-        Each (λ n. fits (node_at here.checked.now.stored n)) parts.now }
-    ensures value { let sat = node_sat here.entry.view.now here.entry.world (take top stack.old) in
-        result ≡ list_any (λ n. same_truth truth (sat (node_at here.entry.checked.now.stored n))) parts.now }
+    requires fits { Each (CellFits here.view.now here.checked.now here.world (take top stack.old)) parts.now }
+    ensures value { result ≡ some_has here.entry.view.now here.entry.checked.now here.entry.world (take top stack.old) parts.now truth }
     ensures kept { take top stack.new ≡ take top stack.old }
 {
     for part in parts {
@@ -164,35 +155,6 @@ fn some_part<L: Ledger>(
         }
     }
     false
-}
-
-/// Whether a formula holds for each element that exists, or for some.
-#[cycle(holds_at)]
-fn quantified<L: Ledger>(
-    here: Here<'_>,
-    quantifier: Quantifier,
-    sort: u32,
-    body: usize,
-    stack: &mut [u32],
-    top: usize,
-    room: &mut [u32],
-    steps: &mut Steps<L>,
-) -> bool
-    requires formula { IsFormula here.checked.now.stored body }
-    requires world_in { here.world < here.view.now.worlds }
-    requires sort_in { sort < length here.view.now.existence }
-    requires depth { top + (node_depth (node_at here.checked.now.stored body) + 1) ≤ length stack.old }
-    requires room { 1000 * node_depth (node_at here.checked.now.stored body) ≤ length room.old }
-    requires fits { let fits = λ (a : ℕ). NodeFits here.view.now here.world (take top stack.old ++ a ∷ []) (node_at here.checked.now.stored body) in
-        (a : ℕ) → a < size_at here.view.now.sizes sort → fits a }
-    ensures value { let formula = λ (x : List ℕ). NodeQuant quantifier sort x (node_at here.entry.checked.now.stored body) in
-        (x : List ℕ) → result ≡ node_sat here.entry.view.now here.entry.world (take top stack.old) (formula x) }
-    ensures kept { take top stack.new ≡ take top stack.old }
-{
-    match quantifier {
-        Quantifier::All => !some_element(here, sort, body, false, stack, top, room, steps),
-        Quantifier::Exists => some_element(here, sort, body, true, stack, top, room, steps),
-    }
 }
 
 /// Whether a formula has this truth for some element that exists.
@@ -212,11 +174,8 @@ fn some_element<L: Ledger>(
     requires sort_in { sort < length here.view.now.existence }
     requires depth { top + (node_depth (node_at here.checked.now.stored body) + 1) ≤ length stack.old }
     requires room { 1000 * node_depth (node_at here.checked.now.stored body) ≤ length room.old }
-    requires fits { let fits = λ (a : ℕ). NodeFits here.view.now here.world (take top stack.old ++ a ∷ []) (node_at here.checked.now.stored body) in
-        (a : ℕ) → a < size_at here.view.now.sizes sort → fits a }
-    ensures value { let exists = exists_in here.entry.view.now sort here.entry.world in
-        let sat = λ (e : List ℕ). node_sat here.entry.view.now here.entry.world e (node_at here.entry.checked.now.stored body) in
-        result ≡ any_below (size_at here.entry.view.now.sizes sort) (λ a. exists a && same_truth truth (sat (take top stack.old ++ a ∷ []))) }
+    requires fits { FitsEachElement here.view.now here.checked.now here.world (take top stack.old) sort body }
+    ensures value { result ≡ any_element here.entry.view.now here.entry.checked.now here.entry.world (take top stack.old) sort body truth }
     ensures kept { take top stack.new ≡ take top stack.old }
 {
     for element in 0..here.view.size(sort) {
@@ -244,42 +203,12 @@ fn holds_of<L: Ledger>(
     requires world_in { here.world < here.view.now.worlds }
     requires depth { top + (node_depth (node_at here.checked.now.stored body) + 1) ≤ length stack.old }
     requires room { 1000 * node_depth (node_at here.checked.now.stored body) ≤ length room.old }
-    requires fits { NodeFits here.view.now here.world (take top stack.old ++ element ∷ []) (node_at here.checked.now.stored body) }
-    ensures value { let formula = node_at here.entry.checked.now.stored body in
-        result ≡ node_sat here.entry.view.now here.entry.world (take top stack.old ++ element ∷ []) formula }
+    requires fits { CellFits here.view.now here.checked.now here.world (take top stack.old ++ element ∷ []) body }
+    ensures value { result ≡ sat_at here.entry.view.now here.entry.checked.now here.entry.world (take top stack.old ++ element ∷ []) body }
     ensures kept { take top stack.new ≡ take top stack.old }
 {
     stack[top] = element;
     holds_at(here, body, stack, top + 1, room, steps)
-}
-
-/// Whether a formula holds at each world that is reached, or at some.
-#[cycle(holds_at)]
-fn modal<L: Ledger>(
-    here: Here<'_>,
-    mode: Mode,
-    index: u32,
-    body: usize,
-    stack: &mut [u32],
-    top: usize,
-    room: &mut [u32],
-    steps: &mut Steps<L>,
-) -> bool
-    requires formula { IsFormula here.checked.now.stored body }
-    requires world_in { here.world < here.view.now.worlds }
-    requires index_in { index < here.view.now.indexes }
-    requires depth { top + node_depth (node_at here.checked.now.stored body) ≤ length stack.old }
-    requires room { 1000 * node_depth (node_at here.checked.now.stored body) ≤ length room.old }
-    requires fits { let fits = λ (v : ℕ). NodeFits here.view.now v (take top stack.old) (node_at here.checked.now.stored body) in
-        (v : ℕ) → v < here.view.now.worlds → fits v }
-    ensures value { let formula = NodeModal mode index (node_at here.entry.checked.now.stored body) in
-        result ≡ node_sat here.entry.view.now here.entry.world (take top stack.old) formula }
-    ensures kept { take top stack.new ≡ take top stack.old }
-{
-    match mode {
-        Mode::Box => !some_world(here, index, body, false, stack, top, room, steps),
-        Mode::Dia => some_world(here, index, body, true, stack, top, room, steps),
-    }
 }
 
 /// Whether a formula has this truth at some world that is reached.
@@ -299,11 +228,8 @@ fn some_world<L: Ledger>(
     requires index_in { index < here.view.now.indexes }
     requires depth { top + node_depth (node_at here.checked.now.stored body) ≤ length stack.old }
     requires room { 1000 * node_depth (node_at here.checked.now.stored body) ≤ length room.old }
-    requires fits { let fits = λ (v : ℕ). NodeFits here.view.now v (take top stack.old) (node_at here.checked.now.stored body) in
-        (v : ℕ) → v < here.view.now.worlds → fits v }
-    ensures value { let reached = related_in here.entry.view.now index here.entry.world in
-        let sat = λ (v : ℕ). node_sat here.entry.view.now v (take top stack.old) (node_at here.entry.checked.now.stored body) in
-        result ≡ any_below here.entry.view.now.worlds (λ v. reached v && same_truth truth (sat v)) }
+    requires fits { FitsEachWorld here.view.now here.checked.now (take top stack.old) body }
+    ensures value { result ≡ any_world here.entry.view.now here.entry.checked.now here.entry.world (take top stack.old) index body truth }
     ensures kept { take top stack.new ≡ take top stack.old }
 {
     for world in 0..here.view.worlds() {

@@ -1,10 +1,9 @@
 //! Values of terms.
-ghost use Rattle.std.specs.Prelude.{◌≡◌, ℕ, ◌*◌, ◌<◌, ◌≤◌, length, map, take};
+ghost use Rattle.std.specs.Prelude.{◌≡◌, ◌*◌, ◌<◌, ◌≤◌, length, map, take};
 ghost use Rattle.std.specs.List.{All};
 ghost use Rattle.formula_cells.specs.Stored.{IsArgument, IsTerm, term_at};
-ghost use Rattle.kripke_evaluation_definitions.specs.Fitting.{TermFits};
 ghost use Rattle.kripke_evaluation_definitions.specs.NumberedDepth.{term_depth, terms_depth};
-ghost use Rattle.kripke_evaluation_definitions.specs.NumberedMeaning.{node_value};
+ghost use Rattle.kripke_eval.specs.steps.Cells.{cell_value, values_at, CellTermFits};
 
 use crate::here::Here;
 use formula_cells::Cell;
@@ -23,9 +22,9 @@ pub(crate) fn value_at<L: Ledger>(
 ) -> u32
     requires term { IsTerm here.checked.now.stored at }
     requires world_in { here.world < here.view.now.worlds }
-    requires fits { TermFits here.view.now here.world stack.now (term_at here.checked.now.stored at) }
+    requires fits { CellTermFits here.view.now here.checked.now here.world stack.now at }
     requires room { 1000 * term_depth (term_at here.checked.now.stored at) ≤ length room.old }
-    ensures { result ≡ node_value here.entry.view.now here.entry.world stack.now (term_at here.entry.checked.now.stored at) }
+    ensures { result ≡ cell_value here.entry.view.now here.entry.checked.now here.entry.world stack.now at }
 {
     match here.checked.cell(at) {
         Cell::Bound(level) => stack[*level as usize],
@@ -53,11 +52,10 @@ pub(crate) fn fill<L: Ledger>(
     requires cell { at ≤ length here.checked.now.stored.cells }
     requires terms { All (IsArgument here.checked.now.stored.cells at) terms.now }
     requires world_in { here.world < here.view.now.worlds }
-    requires fits { All (λ n. TermFits here.view.now here.world stack.now (term_at here.checked.now.stored n)) terms.now }
+    requires fits { All (CellTermFits here.view.now here.checked.now here.world stack.now) terms.now }
     requires few { length terms.now ≤ length row.old }
     requires room { 1000 * terms_depth (map (term_at here.checked.now.stored) terms.now) ≤ length room.old }
-    ensures { let value = node_value here.entry.view.now here.entry.world stack.now in
-        take (length terms.now) row.new ≡ map (λ n. value (term_at here.entry.checked.now.stored n)) terms.now }
+    ensures { take (length terms.now) row.new ≡ values_at here.entry.view.now here.entry.checked.now here.entry.world stack.now terms.now }
 {
     for (i, term) in terms.iter().enumerate() {
         row[i] = value_at(here, *term, stack, room, steps);

@@ -1,6 +1,6 @@
 -- The walk over the formulas of a file and their parts, side by side.
 use mathlib.Core.Bool.{beq}
-use Rattle.std.specs.Prelude.{ℕ, Bool, true, nat_eq, if◌then◌else◌, List, [], ◌∷◌, drop, Option, None, Some}
+use Rattle.std.specs.Prelude.{◌≡◌, ℕ, ◌+◌, Bool, true, nat_eq, if◌then◌else◌, List, [], ◌∷◌, drop, Option, None, Some}
 use Rattle.nxf_tree.specs.declared.tree.Part.{Part}
 use Rattle.nxf_tree.specs.declared.tree.PartEntry.{PartEntry}
 use Rattle.nxf_tree.specs.Parts.{is_conjecture}
@@ -24,3 +24,10 @@ first_unmet test (n ∷ ns) (p ∷ ps) =
 -- the same from a place among the formulas and a place among the parts on
 abbrev pub unmet_from : KripkeTables → Bool → List Numbered → List PartEntry → ℕ → ℕ → Option Condition
 unmet_from view conjecture ns ps at next = first_unmet (passes view conjecture) (drop at ns) (drop next ps)
+
+-- from these places on the first is the same as from the next formula and this part on; or it is this condition
+abbrev pub PassesOn : KripkeTables → Bool → List Numbered → List PartEntry → ℕ → ℕ → ℕ → Type 0
+PassesOn view conjecture ns ps at next after = unmet_from view conjecture ns ps at next ≡ unmet_from view conjecture ns ps (at + 1) after
+
+abbrev pub StopsWith : KripkeTables → Bool → List Numbered → List PartEntry → ℕ → ℕ → Condition → Type 0
+StopsWith view conjecture ns ps at next condition = unmet_from view conjecture ns ps at next ≡ Some condition

@@ -6,7 +6,7 @@ use Rattle.nxf_tree.specs.Rows.{size_at}
 use Rattle.fin_struct.specs.KripkeTables.{related_in, exists_in, predicate_in}
 use Rattle.numbered_definitions.specs.declared.node.Node as node
 use Rattle.numbered_definitions.specs.NamedForm.{NodeQuant, NodeModal}
-use Rattle.formula_cells.specs.Expressions.{span_of}
+use Rattle.formula_cells.specs.Expressions.{name_in, span_of}
 use Rattle.formula_cells.specs.Stored.{IsPart, AreParts, node_at, term_at}
 use Rattle.formula_cells.proofs.CallerLemmas.{good_read, node_read}
 use Rattle.kripke_evaluation_definitions.specs.Fitting.{Fits}
@@ -140,25 +140,32 @@ holds_at-returns-in-Or-clause-value g t c =
     c.some_part-in-Or.ensures.value ∙ ap (list_any (λ n. same_truth true (node_sat view w e (node_at s n)))) c.parts-parts-in-Or.ensures ∙ sym (any-map (node_sat view w e) (node_at s) parts)
     ∙ sym (ap (node_sat view w e) is ∙ sat_of_Or view w e (map (node_at s) parts))
 
-pub modal-returns-in-Box-clause-value : goal.modal-returns-in-Box-clause-value
-modal-returns-in-Box-clause-value g t c =
+pub holds_at-returns-in-All-clause-value : goal.holds_at-returns-in-All-clause-value
+holds_at-returns-in-All-clause-value g t c =
+    let s = c.args.here.checked.now.stored in
     let view = c.args.here.view.now in
     let w = c.args.here.world in
     let e = take c.args.top c.args.stack.now in
-    let n = node_at c.args.here.checked.now.stored c.args.body in
-    ap not c.some_world.ensures.value
-    ∙ sym (all_present_is view.worlds (related_in view c.args.index w) (λ v. node_sat view v e n))
-    ∙ sym (ap (λ m. node_sat view w e (NodeModal m c.args.index n)) c.in-Box.is)
-
-pub quantified-returns-in-All-clause-value : goal.quantified-returns-in-All-clause-value
-quantified-returns-in-All-clause-value g t c = λ x.
-    let view = c.args.here.view.now in
-    let w = c.args.here.world in
-    let e = take c.args.top c.args.stack.now in
-    let n = node_at c.args.here.checked.now.stored c.args.body in
+    let sort = c.in-Quant.sort in
+    let x = name_in s.names c.in-Quant.field-2 in
+    let n = node_at s c.in-Quant.body in
     ap not c.some_element.ensures.value
-    ∙ sym (all_present_is (size_at view.sizes c.args.sort) (exists_in view c.args.sort w) (λ a. node_sat view w (e ++ a ∷ []) n))
-    ∙ sym (ap (λ q. node_sat view w e (NodeQuant q c.args.sort x n)) c.in-All.is)
+    ∙ sym (all_present_is (size_at view.sizes sort) (exists_in view sort w) (λ a. node_sat view w (e ++ a ∷ []) n))
+    ∙ sym (ap (λ q. node_sat view w e (NodeQuant q sort x n)) c.in-All.is)
+    ∙ sym (ap (node_sat view w e) (node_read s c.args.at _ _ c.in-Quant.is c.cell.ensures.stands))
+
+pub holds_at-returns-in-Box-clause-value : goal.holds_at-returns-in-Box-clause-value
+holds_at-returns-in-Box-clause-value g t c =
+    let s = c.args.here.checked.now.stored in
+    let view = c.args.here.view.now in
+    let w = c.args.here.world in
+    let e = take c.args.top c.args.stack.now in
+    let index = c.in-Modal.index in
+    let n = node_at s c.in-Modal.body in
+    ap not c.some_world.ensures.value
+    ∙ sym (all_present_is view.worlds (related_in view index w) (λ v. node_sat view v e n))
+    ∙ sym (ap (λ m. node_sat view w e (NodeModal m index n)) c.in-Box.is)
+    ∙ sym (ap (node_sat view w e) (node_read s c.args.at _ _ c.in-Modal.is c.cell.ensures.stands))
 
 pub some_element-returns-then-holds_of-truth-clause-value : goal.some_element-returns-then-holds_of-truth-clause-value
 some_element-returns-then-holds_of-truth-clause-value g t c =

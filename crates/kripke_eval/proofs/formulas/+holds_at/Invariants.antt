@@ -20,14 +20,8 @@ decreases-holds_of g l = 4 * l.body + 2
 abbrev pub decreases-some_element : goal.decreases-some_element
 decreases-some_element g l = 4 * l.body + 3
 
-abbrev pub decreases-quantified : goal.decreases-quantified
-decreases-quantified g l = 4 * l.body + 4
-
 abbrev pub decreases-some_world : goal.decreases-some_world
 decreases-some_world g l = 4 * l.body + 3
-
-abbrev pub decreases-modal : goal.decreases-modal
-decreases-modal g l = 4 * l.body + 4
 
 -- none of the parts so far has the truth
 abbrev pub invariant-some_part-loop-part : goal.invariant-some_part-loop-part
