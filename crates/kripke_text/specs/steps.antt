@@ -1,6 +1,9 @@
 pub mod Taking
+pub mod Written
 pub mod Subjects
 pub mod Lines
 pub mod Comparing
+pub mod ReadByHead
+pub mod ReadBySubject
 pub mod Reading
 pub mod Numbers

@@ -1,11 +1,10 @@
 //! Compares tokens with the marks that are put.
-ghost use Rattle.std.specs.Prelude.{◌≡◌, ◌≢◌, ◌++◌, ℕ, List, [], ◌∷◌, length, ◌<◌, ◌^◌, All, true, false, IsTrue, ◌↔◌, None, Some, OnOk, is_some};
-ghost use Rattle.nxf_tree.specs.Names.{numeral};
+ghost use Rattle.std.specs.Prelude.{◌≡◌, ◌≢◌, ℕ, List, [], ◌∷◌, length, ◌<◌, ◌^◌, All, true, false, IsTrue, ◌↔◌, None, Some, OnOk, is_some};
 ghost use Rattle.tptp_lex.specs.Lexing.{IsSpan};
 ghost use Rattle.tptp_lex.specs.Texts.{token_text};
 ghost use Rattle.plain_tokens.specs.PlainTokens.{plain_kind, plain_of, plains_of};
 ghost use Rattle.plain_tokens.specs.Marks.{Mark, mark_plains};
-ghost use Rattle.kripke_text.specs.steps.Comparing.{BeginsWith, matched};
+ghost use Rattle.kripke_text.specs.steps.Comparing.{BeginsWith, matched, object_token};
 ghost use Rattle.kripke_text.specs.steps.Taking.{numbered};
 ghost use Rattle.kripke_text.specs.steps.Reading.{TakesNumber};
 ghost use Rattle.plain_tokens.specs.PlainTokens.{Plain};
@@ -37,7 +36,7 @@ pub fn is_token(bytes: &[u8], token: Token, kind: Kind, text: &[u8]) -> bool
 /// Whether the token is this object.
 fn is_object(bytes: &[u8], token: Token, front: &[u8], number: u32) -> bool
     requires { IsSpan (length bytes.now) token }
-    ensures { IsTrue result ↔ (plain_of bytes.now token ≡ record { kind = Kind.Distinct; text = front.now ++ numeral number }) }
+    ensures { IsTrue result ↔ (plain_of bytes.now token ≡ object_token front.now number) }
 {
     plain(token.kind) == Kind::Distinct && has_number(token.spelling(bytes), front, number)
 }
@@ -56,7 +55,7 @@ fn is_first(bytes: &[u8], left: &[Token], kind: Kind, text: &[u8]) -> bool
 /// Whether the first of the tokens is this object.
 fn is_first_object(bytes: &[u8], left: &[Token], front: &[u8], number: u32) -> bool
     requires { All (IsSpan (length bytes.now)) left.now }
-    ensures { IsTrue result ↔ BeginsWith (record { kind = Kind.Distinct; text = front.now ++ numeral number }) (plains_of bytes.now left.now) }
+    ensures { IsTrue result ↔ BeginsWith (object_token front.now number) (plains_of bytes.now left.now) }
 {
     if left.is_empty() {
         return false;
@@ -160,7 +159,7 @@ impl<'a> Matcher<'a> {
     }
 
     fn take_object(&mut self, front: &[u8], number: u32)
-        ensures { (m : Mark) → mark_plains m ≡ record { kind = Kind.Distinct; text = front.now ++ numeral number } ∷ [] → self.new ≡ matched self.old m }
+        ensures { (m : Mark) → mark_plains m ≡ object_token front.now number ∷ [] → self.new ≡ matched self.old m }
     {
         if self.agrees {
             if is_first_object(self.bytes, self.left, front, number) {

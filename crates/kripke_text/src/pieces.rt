@@ -7,6 +7,7 @@ ghost use Rattle.std.specs.Option.{option_map};
 ghost use Rattle.plain_tokens.specs.Marks.{Dollar, Name};
 ghost use Rattle.kripke_text_definitions.specs.KripkeText as text;
 ghost use Rattle.kripke_text.specs.steps.Taking.{comma_marks, lead_marks, opening_marks, closing_marks, truth_marks, place_marks, place_end};
+ghost use Rattle.kripke_text.specs.steps.Written.{application_of};
 
 use crate::taker::Taker;
 use classical_syntax::sort_at;
@@ -211,7 +212,7 @@ pub fn application<M: Taker>(
 ) -> Result<(), Memory>
     requires long { length args.now ≡ length row.now }
     requires in_range { All (λ n. IsTrue (in_range over.now.sorts n)) args.now }
-    ensures { OnOk result (out.new ≡ fold M.takes out.old (text.application name.now (map (named.sort_at over.now.sorts) args.now) row.now)) }
+    ensures { OnOk result (out.new ≡ fold M.takes out.old (application_of over.now name.now args.now row.now)) }
 {
     out.name(name.bytes())?;
     if row.is_empty() {

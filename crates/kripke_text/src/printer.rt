@@ -1,11 +1,10 @@
 //! Prints a Kripke structure.
-ghost use Rattle.std.specs.Prelude.{◌≡◌, ◌++◌, map, flat_map, IfOk, OnOk};
-ghost use Rattle.nxf_tree.specs.Signature as named;
+ghost use Rattle.std.specs.Prelude.{◌≡◌, ◌++◌, flat_map, IfOk, OnOk};
 ghost use Rattle.nxf_tree.specs.WellFormed.{IsWellFormed};
 ghost use Rattle.fin_struct.specs.KripkeTables.{IsKripke, IsKripkeFor, kripke_structure};
-ghost use Rattle.fin_struct.specs.RowLists.{listed};
 ghost use Rattle.plain_tokens.specs.Marks.{spelled};
 ghost use Rattle.kripke_text_definitions.specs.KripkeText as text;
+ghost use Rattle.kripke_text.specs.steps.Written.{head_marks, domains_marks, tables_marks};
 
 use crate::head::{domain_statement, local_statement, worlds_statement};
 use crate::page::Page;
@@ -32,7 +31,7 @@ pub fn print(alloc: Global, over: &Signature, kripke: &Kripke) -> Result<Vec<u8>
 fn put_head(page: &mut Page, over: &Signature, kripke: &Kripke) -> Result<(), Memory>
     requires well_formed { IsWellFormed over.now }
     requires over { IsKripkeFor over.now kripke.now }
-    ensures head { OnOk result (page.new ≡ page.old ++ flat_map spelled (text.head_marks over.now kripke.now.worlds kripke.now.actual kripke.now.sizes)) }
+    ensures head { OnOk result (page.new ≡ page.old ++ flat_map spelled (head_marks over.now kripke.now)) }
     ensures within { IsKripke kripke.now }
 {
     let worlds = kripke.worlds();
@@ -45,7 +44,7 @@ fn put_head(page: &mut Page, over: &Signature, kripke: &Kripke) -> Result<(), Me
 fn put_domains(page: &mut Page, over: &Signature, kripke: &Kripke) -> Result<(), Memory>
     requires well_formed { IsWellFormed over.now }
     requires over { IsKripkeFor over.now kripke.now }
-    ensures { OnOk result (page.new ≡ page.old ++ flat_map spelled (text.domain_statements (named.sort_names over.now.sorts) kripke.now.sizes)) }
+    ensures { OnOk result (page.new ≡ page.old ++ flat_map spelled (domains_marks over.now kripke.now)) }
 {
     for (number, sort) in over.sorts.as_slice().iter().enumerate() {
         domain_statement(page, &sort.name, kripke.size(number as u32))?;
@@ -63,7 +62,7 @@ fn put_tables(
     requires well_formed { IsWellFormed over.now }
     requires within { IsKripke kripke.now }
     requires over { IsKripkeFor over.now kripke.now }
-    ensures { OnOk result (page.new ≡ page.old ++ flat_map spelled (text.table_statements (text.labels_of over.now) (map listed kripke.now.tables))) }
+    ensures { OnOk result (page.new ≡ page.old ++ flat_map spelled (tables_marks over.now kripke.now)) }
 {
     let subjects = subjects(alloc, over)?;
     for subject in subjects.as_slice() {

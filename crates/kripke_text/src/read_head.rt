@@ -6,7 +6,8 @@ ghost use Rattle.fin_struct.specs.KripkeTables.{others_of};
 ghost use Rattle.plain_tokens.specs.Marks.{plains};
 ghost use Rattle.kripke_text_definitions.specs.KripkeText as text;
 ghost use Rattle.kripke_text_laws.specs.steps.FirstParts.{IsWorlds, IsLocal};
-ghost use Rattle.kripke_text.specs.steps.Reading.{Reads, RefusesAt, IsDomain, IsHead, HeadRefuses};
+ghost use Rattle.kripke_text.specs.steps.Reading.{Reads, RefusesAt, IsDomain, HeadRefuses};
+ghost use Rattle.kripke_text.specs.steps.ReadByHead.{ReadsHead};
 
 use crate::head::{domain_statement, local_front, worlds_statement};
 use crate::matcher::Matcher;
@@ -136,7 +137,7 @@ pub fn read_head(
 ) -> Result<Head, KripkeTextError>
     requires { IsWellFormed over.now }
     ensures worlds { IfOk result (λ head. head.sizes ≡ rows.size_at head.sizes 0 ∷ others_of head.sizes) }
-    ensures head { IfOk result (λ head. IsHead over.now (rows.size_at head.sizes 0) head.actual (others_of head.sizes) statements.old statements.new) }
+    ensures head { IfOk result (ReadsHead over.now statements.old statements.new) }
     ensures refused { IfErr result (HeadRefuses over.now statements.old) }
 {
     let worlds = next_worlds(statements)?;

@@ -1,16 +1,13 @@
 //! Reads the statement of a table.
 ghost use Rattle.std.specs.Prelude.{◌≡◌, ◌<◌, None, Some, length, IfOk, IsSome, IsTrue, if◌then◌else◌};
-ghost use Rattle.std.specs.Option.{option_map};
-ghost use Rattle.nxf_tree.specs.Rows.{size_at};
-ghost use Rattle.nxf_tree.specs.Signature.{sort_at};
 ghost use Rattle.nxf_tree.specs.Sorting.{gives_in_range};
 ghost use Rattle.nxf_tree.specs.WellFormed.{IsWellFormed};
 ghost use Rattle.fin_struct.specs.Places.{InRange};
-ghost use Rattle.fin_struct.specs.KripkeTables.{IsKripke, IsKripkeFor, symbol_number, symbol_table, with_written};
-ghost use Rattle.kripke_text_definitions.specs.KripkeText as text;
-ghost use Rattle.kripke_text.specs.steps.Reading.{Bounded, cell_of, IsBlank, TakesNumber, TakesLine, ReadsLine, ReadsTable};
+ghost use Rattle.fin_struct.specs.KripkeTables.{IsKripke, IsKripkeFor, symbol_table};
+ghost use Rattle.kripke_text.specs.steps.ReadBySubject.{TakesResult, TakesValue, TakesLiteral, with_literal, with_symbol_literal, ReadsLiteral, ReadsStatement};
+ghost use Rattle.kripke_text.specs.steps.Reading.{Bounded, IsBlank};
 ghost use Rattle.kripke_text_laws.specs.steps.Labels.{has_values, row_length};
-ghost use Rattle.kripke_text.specs.steps.Subjects.{IsIn, label_of, number_of, table_of};
+ghost use Rattle.kripke_text.specs.steps.Subjects.{IsIn, label_of, table_of};
 
 use crate::matcher::Matcher;
 use crate::pieces::{close_statement, equals, lead, open_statement, prefix, truth};
@@ -32,7 +29,7 @@ fn take_result(
 ) -> Result<Option<u32>, Memory>
     requires in_range { IsTrue (gives_in_range over.now.sorts gives) }
     requires agrees { IsSome matcher.old }
-    ensures { IfOk result (λ found. TakesNumber (text.value_of (option_map (sort_at over.now.sorts) gives)) (Bounded (option_map (size_at kripke.now.sizes) gives)) matcher.old matcher.new found) }
+    ensures { IfOk result (TakesResult over.now kripke.now gives matcher.old matcher.new) }
 {
     match gives {
         None => Ok(Some(0)),
@@ -55,7 +52,7 @@ fn take_value(
     requires over { IsKripkeFor over.now kripke.now }
     requires subject_in { IsIn over.now subject }
     requires agrees { IsSome matcher.old }
-    ensures { IfOk result (λ found. TakesNumber (text.label_value (label_of over.now subject)) (Bounded (table_of kripke.now subject).values) matcher.old matcher.new found) }
+    ensures { IfOk result (TakesValue over.now kripke.now subject matcher.old matcher.new) }
 {
     match subject {
         Subject::Relation(_) => Ok(Some(0)),
@@ -80,7 +77,7 @@ fn take_line(
     requires over { IsKripkeFor over.now kripke.now }
     requires subject_in { IsIn over.now subject }
     requires long { length row.now ≡ row_length (label_of over.now subject) }
-    ensures { IfOk result (λ found. TakesLine (label_of over.now subject) (table_of kripke.now subject).values none row.now matcher.old matcher.new found) }
+    ensures { IfOk result (TakesLiteral over.now kripke.now subject none row.now matcher.old matcher.new) }
 {
     let mut trial = matcher.again();
     lead(&mut trial, none)?;
@@ -106,7 +103,7 @@ fn write_line(over: &Signature, kripke: &mut Kripke, subject: Subject, row: &[u3
     requires subject_in { IsIn over.now subject }
     requires row_in { InRange (table_of kripke.old subject).sizes row.now }
     requires bounded { Bounded (table_of kripke.old subject).values number }
-    ensures { kripke.new ≡ with_written kripke.old (number_of kripke.old subject) row.now (cell_of (table_of kripke.old subject).values (Some number)) }
+    ensures { kripke.new ≡ with_literal kripke.old subject row.now number }
 {
     match subject {
         Subject::Relation(index) => kripke.set_related(index, row[0], row[1], true),
@@ -121,7 +118,7 @@ fn write_symbol(over: &Signature, kripke: &mut Kripke, symbol: u32, row: &[u32],
     requires symbol_in { symbol < length over.now.symbols }
     requires row_in { InRange (symbol_table kripke.old symbol).sizes row.now }
     requires bounded { Bounded (symbol_table kripke.old symbol).values number }
-    ensures { kripke.new ≡ with_written kripke.old (symbol_number kripke.old symbol) row.now (cell_of (symbol_table kripke.old symbol).values (Some number)) }
+    ensures { kripke.new ≡ with_symbol_literal kripke.old symbol row.now number }
 {
     let entry = symbol_entry(over, symbol);
     let (world, args) = split_row(takes_world(entry), row);
@@ -158,7 +155,7 @@ fn read_line(
     requires over { IsKripkeFor over.now kripke.old }
     requires subject_in { IsIn over.now subject }
     requires row_in { InRange (table_of kripke.old subject).sizes row.now }
-    ensures read { IfOk result (λ after. ReadsLine (label_of over.now subject) (table_of kripke.old subject).values none (number_of kripke.old subject) row.now matcher.old matcher.new kripke.old kripke.new after) }
+    ensures read { IfOk result (ReadsLiteral over.now subject none row.now matcher.old matcher.new kripke.old kripke.new) }
     ensures within { IfOk result (λ _. IsKripke kripke.new) }
     ensures over { IfOk result (λ _. IsKripkeFor over.now kripke.new) }
 {
@@ -190,7 +187,7 @@ pub fn read_table(
     requires over { IsKripkeFor over.now kripke.old }
     requires subject_in { IsIn over.now subject }
     requires blank { IsBlank (table_of kripke.old subject) }
-    ensures read { IfOk result (λ is. ReadsTable (label_of over.now subject) (number_of kripke.old subject) matcher.now kripke.old kripke.new is) }
+    ensures read { IfOk result (ReadsStatement over.now subject matcher.now kripke.old kripke.new) }
     ensures within { IfOk result (λ _. IsKripke kripke.new) }
     ensures over { IfOk result (λ _. IsKripkeFor over.now kripke.new) }
 {

@@ -1,18 +1,18 @@
 //! Reads a Kripke structure.
-ghost use Rattle.std.specs.Prelude.{◌≡◌, ◌<◌, ◌∷◌, List, map, IfOk, IfErr, OnOk};
+ghost use Rattle.std.specs.Prelude.{◌≡◌, ◌<◌, ◌∷◌, map, IfOk, IfErr, OnOk};
 ghost use Rattle.tptp_lex.specs.Lexing.{Lexes};
 ghost use Rattle.nxf_tree.specs.Rows as rows;
 ghost use Rattle.nxf_tree.specs.WellFormed.{IsWellFormed};
-ghost use Rattle.fin_struct.specs.KripkeTables.{KripkeTables, IsKripke, IsKripkeFor, blank_kripke, others_of};
-ghost use Rattle.fin_struct.specs.RowLists.{listed};
-ghost use Rattle.plain_tokens.specs.PlainTokens.{Plain, plains_of};
+ghost use Rattle.fin_struct.specs.KripkeTables.{KripkeTables, IsKripke, IsKripkeFor, others_of};
+ghost use Rattle.plain_tokens.specs.PlainTokens.{plains_of};
 ghost use Rattle.plain_tokens.specs.Marks.{plains};
-ghost use Rattle.kripke_text_definitions.specs.KripkeText as text;
-ghost use Rattle.kripke_text_definitions.specs.TokenStatements as split;
 ghost use Rattle.kripke_text_definitions.specs.Reading.{Explains};
 ghost use Rattle.kripke_text.specs.Texts.{GivesOnly, IsPrintOf, IsTextOf};
-ghost use Rattle.kripke_text.specs.steps.Subjects.{IsIn, label_of, number_of, table_of};
-ghost use Rattle.kripke_text.specs.steps.Reading.{AreBlank, IsBlank, LimitRefuses, TablesRefuse, TakesTable};
+ghost use Rattle.kripke_text.specs.steps.Subjects.{IsIn, table_of};
+ghost use Rattle.kripke_text.specs.steps.Reading.{AreBlank, IsBlank, LimitRefuses, TablesRefuse};
+ghost use Rattle.kripke_text.specs.steps.ReadByHead.{blank_with, AreTextOf, ExplainsAll};
+ghost use Rattle.kripke_text.specs.steps.ReadBySubject.{TakesStatement};
+ghost use Rattle.kripke_text.specs.steps.Written.{tables_marks};
 
 use crate::read_head::{Head, read_head};
 use crate::read_table::read_table;
@@ -52,8 +52,8 @@ fn read_statements(
     over: &Signature,
 ) -> Result<Kripke, KripkeTextError>
     requires { IsWellFormed over.now }
-    ensures read { IfOk result (λ made. (tokens : List Plain) → split.statements tokens ≡ statements.old → IsTextOf over.now made tokens) }
-    ensures refused { IfErr result (λ e. (tokens : List Plain) → split.statements tokens ≡ statements.old → Explains over.now tokens e) }
+    ensures read { IfOk result (AreTextOf over.now statements.old) }
+    ensures refused { IfErr result (ExplainsAll over.now statements.old) }
 {
     let head = read_head(alloc, statements, over)?;
     let mut kripke = blank_structure(alloc, over, &head)?;
@@ -67,7 +67,7 @@ fn blank_structure(alloc: Global, over: &Signature, head: &Head) -> Result<Kripk
     requires worlds { head.now.sizes ≡ rows.size_at head.now.sizes 0 ∷ others_of head.now.sizes }
     requires actual { head.now.actual < rows.size_at head.now.sizes 0 }
     requires sizes { rows.AreSizes over.now.sorts (others_of head.now.sizes) }
-    ensures made { IfOk result (λ made. made ≡ record (blank_kripke over.now (rows.size_at head.now.sizes 0) (others_of head.now.sizes)) { actual = head.now.actual }) }
+    ensures made { IfOk result (λ made. made ≡ blank_with over.now head.now) }
     ensures over { IfOk result (λ made. IsKripkeFor over.now made) }
     ensures within { IfOk result (λ made. IsKripke made) }
     ensures refused { IfErr result (LimitRefuses over.now (rows.size_at head.now.sizes 0) (others_of head.now.sizes)) }
@@ -95,7 +95,7 @@ fn read_tables(
     requires over { IsKripkeFor over.now kripke.old }
     requires blank { AreBlank kripke.old.tables }
     ensures kept { OnOk result (kripke.new ≡ record kripke.old { tables = kripke.new.tables }) }
-    ensures read { OnOk result (statements.old ≡ map plains (text.table_statements (text.labels_of over.now) (map listed kripke.new.tables))) }
+    ensures read { OnOk result (statements.old ≡ map plains (tables_marks over.now kripke.new)) }
     ensures over { OnOk result (IsKripkeFor over.now kripke.new) }
     ensures within { OnOk result (IsKripke kripke.new) }
     ensures refused { IfErr result (TablesRefuse over.now kripke.old statements.old) }
@@ -126,7 +126,7 @@ fn next_table(
     requires over { IsKripkeFor over.now kripke.old }
     requires subject_in { IsIn over.now subject }
     requires blank { IsBlank (table_of kripke.old subject) }
-    ensures taken { IfOk result (λ is. TakesTable (label_of over.now subject) (number_of kripke.old subject) statements.old statements.new kripke.old kripke.new is) }
+    ensures taken { IfOk result (TakesStatement over.now subject statements.old statements.new kripke.old kripke.new) }
     ensures over { IfOk result (λ _. IsKripkeFor over.now kripke.new) }
     ensures within { IfOk result (λ _. IsKripke kripke.new) }
 {

@@ -1,10 +1,10 @@
 //! The tokens of a text, statement by statement.
-ghost use Rattle.std.specs.Prelude.{◌≡◌, ◌<◌, ◌≤◌, ◌^◌, ◌∷◌, [], All, IfSome, length, take, drop};
+ghost use Rattle.std.specs.Prelude.{◌≡◌, ◌<◌, ◌≤◌, ◌^◌, [], All, IfSome, length};
 ghost use Rattle.std.specs.Option.{IfNone};
 ghost use Rattle.tptp_lex.specs.Lexing.{IsSpan};
 ghost use Rattle.plain_tokens.specs.PlainTokens.{plain_of, plains_of};
 ghost use Rattle.kripke_text_definitions.specs.TokenStatements as split;
-ghost use Rattle.kripke_text.specs.steps.Reading.{IsNext};
+ghost use Rattle.kripke_text.specs.steps.Reading.{IsFirstLength, IsNext};
 
 use crate::matcher::{Matcher, is_token};
 use std::marker::Model;
@@ -23,7 +23,7 @@ fn first_len(bytes: &[u8], left: &[Token]) -> usize
     requires spans { All (IsSpan (length bytes.now)) left.now }
     requires some { 0 < length left.now }
     ensures within { result ≤ length left.now }
-    ensures cut { split.statements (plains_of bytes.now left.now) ≡ plains_of bytes.now (take result left.now) ∷ split.statements (plains_of bytes.now (drop result left.now)) }
+    ensures cut { IsFirstLength bytes.now left.now result }
 {
     for (at, token) in left.iter().enumerate() {
         if is_stop(bytes, *token) {

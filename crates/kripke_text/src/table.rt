@@ -4,12 +4,12 @@ ghost use Rattle.std.specs.List.{fold};
 ghost use Rattle.nxf_tree.specs.WellFormed.{IsWellFormed, has_sorts_in_range};
 ghost use Rattle.nxf_tree.specs.Rows.{all_rows};
 ghost use Rattle.fin_struct.specs.Places.{InRange};
-ghost use Rattle.fin_struct.specs.RowLists.{listed};
 ghost use Rattle.fin_struct.specs.KripkeTables.{IsKripke, IsKripkeFor};
 ghost use Rattle.kripke_text_definitions.specs.KripkeText as text;
 ghost use Rattle.kripke_text.specs.steps.Lines.{line_marks, none_after, lines_in, none_in};
 ghost use Rattle.kripke_text_laws.specs.steps.Labels.{row_length};
 ghost use Rattle.kripke_text.specs.steps.Subjects.{IsIn, label_of, table_of};
+ghost use Rattle.kripke_text.specs.steps.Written.{table_marks};
 
 use crate::pieces::{
     access, application, close_statement, end_place, existence, lead, open_statement, place, truth,
@@ -174,7 +174,7 @@ pub fn table_statement<M: Taker>(
     requires within { IsKripke kripke.now }
     requires over { IsKripkeFor over.now kripke.now }
     requires subject_in { IsIn over.now subject }
-    ensures { OnOk result (out.new ≡ fold M.takes out.old (text.table_statement (label_of over.now subject) (listed (table_of kripke.now subject)))) }
+    ensures { OnOk result (out.new ≡ fold M.takes out.old (table_marks over.now kripke.now subject)) }
 {
     open_statement(out, statement_name(over, subject))?;
     let none = literals(alloc, out, over, kripke, subject)?;

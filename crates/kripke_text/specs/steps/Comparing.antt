@@ -1,8 +1,8 @@
 -- What becomes of tokens that are compared when a mark is put.
-use Rattle.std.specs.Prelude.{◌≡◌, ℕ, Bool, ◌&&◌, nat_eq, if◌then◌else◌, List, [], ◌∷◌, Option, None, Some}
+use Rattle.std.specs.Prelude.{◌≡◌, ℕ, Bool, ◌&&◌, nat_eq, if◌then◌else◌, List, [], ◌∷◌, ◌++◌, Option, None, Some}
 use Rattle.tptp_lex.specs.declared.token.Kind.{Kind}
 use Rattle.tptp_lex.specs.declared.token.Kind.TheVariants as kind
-use Rattle.nxf_tree.specs.Names.{same_text}
+use Rattle.nxf_tree.specs.Names.{same_text, numeral}
 use Rattle.plain_tokens.specs.PlainTokens.{Plain}
 use Rattle.plain_tokens.specs.Marks.{Mark, mark_plains}
 
@@ -28,6 +28,10 @@ strip (p ∷ ps) (t ∷ ts) = if same_plain p t then strip ps ts else None
 abbrev pub matched : Option (List Plain) → Mark → Option (List Plain)
 matched None mark = None
 matched (Some ts) mark = strip (mark_plains mark) ts
+
+-- the token of an object with this front and number
+abbrev pub object_token : List ℕ → ℕ → Plain
+object_token front n = record { kind = kind.Distinct; text = front ++ numeral n }
 
 -- the tokens begin with this one
 abbrev pub BeginsWith : Plain → List Plain → Type 0

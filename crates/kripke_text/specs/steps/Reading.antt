@@ -1,5 +1,6 @@
 -- What the readers of statements give.
-use Rattle.std.specs.Prelude.{◌≡◌, ℕ, ◌<◌, ◌≤◌, ◌++◌, Bool, true, false, List, ◌∷◌, map, length, slice_index, slice_set, Option, None, Some, IsSome}
+use Rattle.std.specs.Prelude.{◌≡◌, ℕ, ◌<◌, ◌≤◌, ◌++◌, Bool, true, false, List, ◌∷◌, map, length, take, drop, slice_index, slice_set, Option, None, Some, IsSome}
+use Rattle.tptp_lex.specs.declared.token.Token.{Token}
 use Rattle.nxf_tree.specs.declared.tree.Signature.{Signature}
 use Rattle.nxf_tree.specs.declared.tree.SortName.{SortName}
 use Rattle.nxf_tree.specs.Rows.{Table, Shape, AreSizes, IsTable}
@@ -8,7 +9,7 @@ use Rattle.fin_struct.specs.Limits.{cells_of}
 use Rattle.fin_struct.specs.Cells.{CellTable, table_at}
 use Rattle.fin_struct.specs.RowLists.{shape_of, listed}
 use Rattle.fin_struct.specs.KripkeTables.{KripkeTables, with_written}
-use Rattle.plain_tokens.specs.PlainTokens.{Plain}
+use Rattle.plain_tokens.specs.PlainTokens.{Plain, plains_of}
 use Rattle.plain_tokens.specs.Marks.{Mark, plains}
 use Rattle.kripke_text_definitions.specs.declared.error.KripkeTextError.{KripkeTextError}
 use Rattle.kripke_text_definitions.specs.declared.error.KripkeTextError.TheVariants.{Form, TooManyWorlds, TooBig, Memory}
@@ -28,6 +29,10 @@ abbrev pub cell_of : Option ℕ → Option ℕ → ℕ
 cell_of values None = 0
 cell_of None (Some v) = 1
 cell_of (Some size) (Some v) = v
+
+-- the first statement of the tokens has so many of them
+abbrev pub IsFirstLength : List ℕ → List Token → ℕ → Type 0
+IsFirstLength bytes left n = statements (plains_of bytes left) ≡ plains_of bytes (take n left) ∷ statements (plains_of bytes (drop n left))
 
 -- the first of the statements is taken
 abbrev pub IsNext : List (List Plain) → Option (List Plain) → List (List Plain) → Type 0
