@@ -107,7 +107,7 @@ fn reaches_what(kripke: &Kripke, index: u32, from: u32, other: u32) -> bool
     requires index_in { index < kripke.now.indexes }
     requires from_in { from < kripke.now.worlds }
     requires other_in { other < kripke.now.worlds }
-    ensures { result ≡ all_below kripke.now.worlds (λ u. implies (related_in kripke.now index other u) (related_in kripke.now index from u)) }
+    ensures { result ≡ steps.reaches_what kripke.now.worlds (related_in kripke.now index) from other }
 {
     for to in 0..kripke.worlds() {
         if kripke.related(index, other, to) && !kripke.related(index, from, to) {
@@ -152,7 +152,7 @@ fn meets_each(kripke: &Kripke, index: u32, from: u32, other: u32) -> bool
     requires index_in { index < kripke.now.indexes }
     requires from_in { from < kripke.now.worlds }
     requires other_in { other < kripke.now.worlds }
-    ensures { result ≡ all_below kripke.now.worlds (λ u. implies (related_in kripke.now index from u) (any_below kripke.now.worlds (λ x. related_in kripke.now index other x && related_in kripke.now index u x))) }
+    ensures { result ≡ steps.meets_each kripke.now.worlds (related_in kripke.now index) from other }
 {
     for to in 0..kripke.worlds() {
         if kripke.related(index, from, to) && !meet_somewhere(kripke, index, other, to) {

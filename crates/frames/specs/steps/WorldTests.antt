@@ -4,17 +4,25 @@ use Rattle.nxf_tree.specs.declared.tree.Scheme.{Scheme}
 use Rattle.nxf_tree.specs.declared.tree.Scheme.TheVariants.{T, D, B, Four, Five, CD, BoxM, C4, C, U}
 use Rattle.nxf_tree.specs.Counting.{all_below, any_below, implies}
 
+-- each world that world o reaches, world w reaches
+abbrev pub reaches_what : ℕ → (ℕ → ℕ → Bool) → ℕ → ℕ → Bool
+reaches_what n R w o = all_below n (λ u. implies (R o u) (R w u))
+
+-- each world that world w reaches, reaches one that world o reaches
+abbrev pub meets_each : ℕ → (ℕ → ℕ → Bool) → ℕ → ℕ → Bool
+meets_each n R w o = all_below n (λ u. implies (R w u) (any_below n (λ x. R o x && R u x)))
+
 -- what a step from world w to world v must meet; T, D and U don't speak of steps
 abbrev pub meets_step : Scheme → ℕ → (ℕ → ℕ → Bool) → ℕ → ℕ → Bool
 meets_step T n R w v = true
 meets_step D n R w v = true
 meets_step B n R w v = R v w
-meets_step Four n R w v = all_below n (λ u. implies (R v u) (R w u))
-meets_step Five n R w v = all_below n (λ u. implies (R w u) (R v u))
+meets_step Four n R w v = reaches_what n R w v
+meets_step Five n R w v = reaches_what n R v w
 meets_step CD n R w v = all_below n (λ u. implies (R w u) (nat_eq v u))
 meets_step BoxM n R w v = R v v
 meets_step C4 n R w v = any_below n (λ u. R w u && R u v)
-meets_step C n R w v = all_below n (λ u. implies (R w u) (any_below n (λ x. R v x && R u x)))
+meets_step C n R w v = meets_each n R w v
 meets_step U n R w v = true
 
 -- each step from world w meets the scheme
