@@ -1,11 +1,10 @@
 //! The first condition on the elements of a sort that fails.
-ghost use Rattle.std.specs.Prelude.{◌≡◌, ◌↔◌, ◌<◌, ◌≤◌, [], ◌∷◌, length, None, not};
-ghost use Rattle.std.specs.List.{find};
+ghost use Rattle.std.specs.Prelude.{◌≡◌, ◌↔◌, ◌<◌, ◌≤◌, length, None};
 ghost use Rattle.nxf_tree.specs.Conditions.{MeetsDomains};
 ghost use Rattle.nxf_tree.specs.WellFormed.{IsWellFormed};
 ghost use Rattle.fin_struct.specs.FirstFault.{meets_in_tables, IsFirstFailing, domain_conditions, sort_conditions, monotone_from};
 ghost use Rattle.fin_struct.specs.KripkeTables.{IsKripkeFor, kripke_structure};
-ghost use Rattle.domains.specs.steps.WorldTests.{meets_in};
+ghost use Rattle.domains.specs.steps.WorldTests.{first_failing, existence_conditions};
 
 use crate::existence::{everyone_exists, goes_along, someone_exists};
 use fin_struct::{Condition, Kripke};
@@ -42,37 +41,22 @@ fn sort_fault(
     requires sort_in { sort < length kripke.now.existence }
     requires indexes { length indexes.now ≡ kripke.now.indexes }
     requires few { length indexes.now ≤ 2147483648 }
-    ensures { result ≡ find (λ condition. not (meets_in kripke.now regime condition)) (sort_conditions indexes.now sort regime) }
+    ensures { result ≡ first_failing kripke.now regime (sort_conditions indexes.now sort regime) }
 {
     match regime {
         Regime::Constant => None,
         Regime::Varying => existence_fault(kripke, sort),
-        Regime::Cumulative | Regime::Decreasing => regime_fault(kripke, indexes, sort, regime),
-    }
-}
-
-/// The first that fails of the conditions of a sort whose elements go along the relations.
-fn regime_fault(
-    kripke: &Kripke,
-    indexes: &List<IndexEntry>,
-    sort: u32,
-    regime: Regime,
-) -> Option<Condition>
-    requires sort_in { sort < length kripke.now.existence }
-    requires indexes { length indexes.now ≡ kripke.now.indexes }
-    requires few { length indexes.now ≤ 2147483648 }
-    ensures { result ≡ find (λ condition. not (meets_in kripke.now regime condition)) (Condition.Empty sort ∷ Condition.Union sort ∷ monotone_from sort 0 indexes.now) }
-{
-    match existence_fault(kripke, sort) {
-        Some(fault) => Some(fault),
-        None => monotone_fault(kripke, indexes, sort, regime),
+        Regime::Cumulative | Regime::Decreasing => match existence_fault(kripke, sort) {
+            Some(fault) => Some(fault),
+            None => monotone_fault(kripke, indexes, sort, regime),
+        },
     }
 }
 
 /// The first that fails of the two conditions that each sort has that isn't constant.
 fn existence_fault(kripke: &Kripke, sort: u32) -> Option<Condition>
     requires { sort < length kripke.now.existence }
-    ensures { result ≡ find (λ condition. not (meets_in kripke.now Regime.Varying condition)) (Condition.Empty sort ∷ Condition.Union sort ∷ []) }
+    ensures { result ≡ first_failing kripke.now Regime.Varying (existence_conditions sort) }
 {
     if !someone_exists(kripke, sort) {
         return Some(Condition::Empty(sort));
@@ -93,7 +77,7 @@ fn monotone_fault(
     requires sort_in { sort < length kripke.now.existence }
     requires indexes { length indexes.now ≡ kripke.now.indexes }
     requires few { length indexes.now ≤ 2147483648 }
-    ensures { result ≡ find (λ condition. not (meets_in kripke.now regime condition)) (monotone_from sort 0 indexes.now) }
+    ensures { result ≡ first_failing kripke.now regime (monotone_from sort 0 indexes.now) }
 {
     for index in 0..indexes.len() {
         let number = index as u32;

@@ -1,5 +1,6 @@
 -- The conditions of a sort by its number, and what its regime asks of each step along a relation.
-use Rattle.std.specs.Prelude.{ℕ, Bool, true}
+use Rattle.std.specs.Prelude.{ℕ, Bool, true, not, List, [], ◌∷◌, Option}
+use Rattle.std.specs.List.{find}
 use Rattle.nxf_tree.specs.declared.tree.Regime.{Regime}
 use Rattle.nxf_tree.specs.declared.tree.Regime.TheVariants.{Constant, Cumulative, Decreasing, Varying}
 use Rattle.nxf_tree.specs.Counting.{all_below, implies}
@@ -37,3 +38,11 @@ meets_in view regime (Monotone s i) = goes_along_in view regime s i
 meets_in view regime (Local f) = true
 meets_in view regime (Premise n) = true
 meets_in view regime (Conjecture n) = true
+
+-- the first of the conditions that fails
+abbrev pub first_failing : KripkeTables → Regime → List Condition → Option Condition
+first_failing view regime conditions = find (λ condition. not (meets_in view regime condition)) conditions
+
+-- the conditions of existence, of each sort that isn't constant
+abbrev pub existence_conditions : ℕ → List Condition
+existence_conditions s = Empty s ∷ Union s ∷ []
