@@ -1,12 +1,12 @@
 //! The first function whose values don't exist where they should.
 ghost use Rattle.std.specs.Prelude.{◌≡◌, ◌↔◌, None, Some, slice_get};
 ghost use Rattle.nxf_tree.specs.Conditions.{MeetsTerms};
-ghost use Rattle.nxf_tree.specs.Conditions as conditions;
 ghost use Rattle.nxf_tree.specs.Structures.{kripke_model};
 ghost use Rattle.nxf_tree.specs.WellFormed.{IsWellFormed};
 ghost use Rattle.fin_struct.specs.FirstFault.{meets_in_tables, IsFirstFailing, term_conditions};
 ghost use Rattle.fin_struct.specs.FirstFault as meant;
 ghost use Rattle.fin_struct.specs.KripkeTables.{IsKripkeFor, kripke_structure};
+ghost use Rattle.designation.specs.steps.RowTests.{meets_result_in};
 
 use crate::values::values_exist;
 use classical_syntax::is_constant;
@@ -49,7 +49,7 @@ fn meets_local(over: &Signature, kripke: &Kripke, number: u32, symbol: &SymbolEn
     requires well_formed { IsWellFormed over.now }
     requires over { IsKripkeFor over.now kripke.now }
     requires place { slice_get over.now.symbols number ≡ Some symbol.now }
-    ensures { result ≡ conditions.meets_result (kripke_model over.now (kripke_structure kripke.now)) symbol.now.name (conditions.argument_sorts over.now symbol.now) (conditions.varying_result over.now symbol.now.gives) }
+    ensures { result ≡ meets_result_in over.now kripke.now symbol.now }
 {
     let worlds = kripke.worlds();
     prove!(worlds > 0);

@@ -1,6 +1,6 @@
 //! Whether the values of a function exist where its arguments do. The rows of arguments are written one after the other into one
 //! room on the stack, element by element, so that elements that don't exist are passed over with all rows that begin so.
-ghost use Rattle.std.specs.Prelude.{◌≡◌, ◌<◌, ◌≤◌, ◌++◌, Some, map, length, take, drop};
+ghost use Rattle.std.specs.Prelude.{◌≡◌, ◌<◌, ◌≤◌, Some, map, length, take, drop};
 ghost use Rattle.nxf_tree.specs.Rows.{size_at};
 ghost use Rattle.fin_struct.specs.KripkeTables.{symbol_table, symbol_row};
 ghost use Rattle.fin_struct.specs.Places.{InRange};
@@ -42,7 +42,7 @@ fn rows_pass(
     requires place_in { place ≤ length sorts.now }
     requires room { length row.old ≡ length sorts.now }
     requires begun { InRange (map (size_at kripke.now.sizes) (take place sorts.now)) (take place row.old) }
-    ensures passes { result ≡ tests.rows_pass kripke.now world (drop place sorts.now) (λ rest. tests.value_exists_at kripke.now symbol gives world (take place row.old ++ rest)) }
+    ensures passes { result ≡ tests.rows_pass_behind kripke.now symbol gives world (drop place sorts.now) (take place row.old) }
     ensures kept { take place row.new ≡ take place row.old }
 {
     if place == sorts.len() {
