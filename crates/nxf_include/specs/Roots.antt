@@ -1,5 +1,5 @@
 -- A list of libraries: its files, and what a load does to it.
-use Rattle.std.specs.Prelude.{◌⊎◌, List, map, [], ◌∷◌, ◌++◌, Option, None, Some}
+use Rattle.std.specs.Prelude.{◌≡◌, ℕ, ◌⊎◌, List, map, [], ◌∷◌, ◌++◌, Option, None, Some, IfSome, Ok}
 use Rattle.std.specs.FinMap as files
 use Rattle.std.specs.declared.alloc.Global.{Global}
 use Rattle.std.specs.declared.dyn_box.DynBox.{DynBox}
@@ -7,6 +7,9 @@ use Rattle.nxf_base.specs.Causes.{Rose}
 use Rattle.nxf_base.specs.Files.{Files}
 use Rattle.nxf_base.specs.Shelf as one
 use Rattle.nxf_base.specs.Shelf.{Shelf}
+use Rattle.syntax_definitions.specs.declared.gather_error.GatherError.{GatherError}
+use Rattle.syntax_definitions.specs.Loading.{loaded}
+use Rattle.syntax_definitions.specs.Refusals.{Refuses}
 use Rattle.nxf_include.specs.declared.roots.Roots.{Roots}
 
 -- What the libraries tell, in their order. A clause names what one in a box tells by `shelf` alone: `shelves_of shelf roots.now`.
@@ -42,3 +45,10 @@ abbrev pub EachMissRose : List Shelf → List Shelf → Type 0
 EachMissRose [] [] = Unit {0}
 EachMissRose (x ∷ xs) (y ∷ ys) = Rose x.misses y.misses × EachMissRose xs ys
 EachMissRose _ _ = ⊥
+
+-- where every library tells its files, these are the bytes of the one with the name, or it is refused for this reason
+abbrev pub TellBytes : List Shelf → List ℕ → List ℕ → Type 0
+TellBytes shelves name bytes = IfSome (files_of shelves) (λ files. loaded files name ≡ Ok bytes)
+
+abbrev pub TellRefusal : List Shelf → List ℕ → GatherError → Type 0
+TellRefusal shelves name = Refuses (files_of shelves) (λ files. loaded files name)

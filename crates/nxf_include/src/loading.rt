@@ -1,8 +1,7 @@
 //! The bytes of one file.
-ghost use Rattle.std.specs.Prelude.{◌≡◌, ◌≤◌, Err, IfOk, IfErr, IfSome, Ok, MatchResult, length, map};
-ghost use Rattle.nxf_include.specs.Roots.{files_of, shelves_of, KeepEach, SomeFaultRose, EachMissRose};
-ghost use Rattle.syntax_definitions.specs.Loading.{loaded};
-ghost use Rattle.syntax_definitions.specs.Refusals.{IsOfLoading, OnNoFile, Refuses};
+ghost use Rattle.std.specs.Prelude.{◌≡◌, ◌≤◌, Err, IfOk, IfErr, length, map};
+ghost use Rattle.nxf_include.specs.Roots.{TellBytes, TellRefusal, shelves_of, KeepEach, SomeFaultRose, EachMissRose};
+ghost use Rattle.syntax_definitions.specs.Refusals.{IsOfLoading, OnNoFile};
 
 use crate::gather_error::{no_file, too_long};
 use crate::{GatherError, Roots, load_first};
@@ -15,10 +14,8 @@ const FILE_LIMIT: u64 = 16_777_216;
 /// The bytes of one file, at most 16,777,216. Where the libraries tell their files, the answer is theirs. Whatever they tell, a
 /// file is absent only where each library missed it, and there is a read fault only where a library failed.
 pub fn load_one(alloc: Global, roots: &mut Roots, name: &Text) -> Result<Vec<u8>, GatherError>
-    ensures bytes { let told = files_of (shelves_of shelf roots.old) in
-        IfOk result (λ bytes. IfSome told (λ files. loaded files name.now ≡ Ok bytes.items)) }
-    ensures refusal { let told = files_of (shelves_of shelf roots.old) in
-        IfErr result (Refuses told (λ files. loaded files name.now)) }
+    ensures bytes { IfOk result (λ bytes. TellBytes (shelves_of shelf roots.old) name.now bytes.items) }
+    ensures refusal { IfErr result (TellRefusal (shelves_of shelf roots.old) name.now) }
     ensures limit { IfOk result (λ bytes. length bytes.items ≤ 16777216) }
     ensures only { IfErr result IsOfLoading }
     ensures no_file { OnNoFile result (EachMissRose (shelves_of shelf roots.old) (shelves_of shelf roots.new)) }
@@ -34,9 +31,8 @@ pub fn load_one_from<L: Library>(
     libraries: &mut [L],
     name: &Text,
 ) -> Result<Vec<u8>, GatherError>
-    ensures bytes { let told = files_of (map L.shelf libraries.old) in
-        IfOk result (λ bytes. IfSome told (λ files. loaded files name.now ≡ Ok bytes.items)) }
-    ensures refusal { let told = files_of (map L.shelf libraries.old) in IfErr result (Refuses told (λ files. loaded files name.now)) }
+    ensures bytes { IfOk result (λ bytes. TellBytes (map L.shelf libraries.old) name.now bytes.items) }
+    ensures refusal { IfErr result (TellRefusal (map L.shelf libraries.old) name.now) }
     ensures limit { IfOk result (λ bytes. length bytes.items ≤ 16777216) }
     ensures only { IfErr result IsOfLoading }
     ensures no_file { OnNoFile result (EachMissRose (map L.shelf libraries.old) (map L.shelf libraries.new)) }

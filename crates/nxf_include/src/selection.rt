@@ -1,11 +1,8 @@
 //! What an include brings of its file.
-ghost use Rattle.std.specs.Prelude.{◌≡◌, ◌⊎◌, ◌++◌, ◌∷◌, [], List, ℕ, Ok, Err, IfOk, OnOk, MatchResult, MatchOption, None, Some, ◌||◌};
-ghost use Rattle.std.specs.List.{filter, list_any};
-ghost use Rattle.indexmap.specs.IndexSet.{contains};
-ghost use Rattle.nxf_tree.specs.declared.tree.Statement.{Statement};
-ghost use Rattle.nxf_tree.specs.Counting.{has};
-ghost use Rattle.nxf_tree.specs.Names.{same_text};
-ghost use Rattle.syntax_definitions.specs.Gathered.{has_name, is_listed, first_missing, selected};
+ghost use Rattle.std.specs.Prelude.{◌≡◌, ◌++◌, ◌∷◌, [], List, ℕ, IfOk, IfErr, OnOk, MatchOption};
+ghost use Rattle.std.specs.List.{filter};
+ghost use Rattle.syntax_definitions.specs.Gathered.{is_listed};
+ghost use Rattle.nxf_include.specs.steps.Selecting.{IsSetOf, HasNamesOf, GainsName, MissesNone, MissesFirst, AddsSelected, RefusesSelected};
 
 use crate::GatherError;
 use crate::gather_error::no_such_name;
@@ -22,9 +19,8 @@ pub fn add_selected(
     names: &Option<List<Text>>,
     statements: List<Statement>,
 ) -> Result<(), GatherError>
-    ensures { MatchResult result
-        (λ _. (kept : _) × (selected file.now names.now statements ≡ Ok kept) × (into.new ≡ into.old ++ kept))
-        (λ e. selected file.now names.now statements ≡ Err e ⊎ e ≡ GatherError.Memory) }
+    ensures added { OnOk result (AddsSelected file.now names.now statements into.old into.new) }
+    ensures refused { IfErr result (RefusesSelected file.now names.now statements) }
 {
     let Some(names) = names else {
         return Ok(add_all(into, statements)?);
@@ -63,7 +59,7 @@ fn add_listed(
     statements: List<Statement>,
 ) -> Result<IndexSet<Text>, Memory>
     ensures added { OnOk result (into.new ≡ into.old ++ filter (is_listed names.now) statements) }
-    ensures found { IfOk result (λ found. (name : List ℕ) → contains same_text found name ≡ list_any (has_name name) (filter (is_listed names.now) statements)) }
+    ensures found { IfOk result (HasNamesOf (filter (is_listed names.now) statements)) }
 {
     let listed = set_of(alloc, names)?;
     let mut found = IndexSet::new(alloc);
@@ -85,7 +81,7 @@ fn keep(
     statement: Statement,
 ) -> Result<(), Memory>
     ensures added { OnOk result (into.new ≡ into.old ++ statement ∷ []) }
-    ensures found { OnOk result ((name : List ℕ) → contains same_text found.new name ≡ (contains same_text found.old name || has_name name statement)) }
+    ensures found { OnOk result (GainsName found.old found.new statement) }
 {
     note_name(alloc, found, &statement)?;
     add(into, statement)
@@ -93,7 +89,7 @@ fn keep(
 
 /// The names as a set.
 fn set_of(alloc: Global, names: &[Text]) -> Result<IndexSet<Text>, Memory>
-    ensures { IfOk result (λ set. (name : List ℕ) → contains same_text set name ≡ has same_text name names.now) }
+    ensures { IfOk result (IsSetOf names.now) }
 {
     let mut set = IndexSet::new(alloc);
     for name in names {
@@ -104,7 +100,7 @@ fn set_of(alloc: Global, names: &[Text]) -> Result<IndexSet<Text>, Memory>
 
 /// Whether the statement's name is in the set.
 fn is_among(listed: &IndexSet<Text>, statement: &Statement) -> bool
-    ensures { (names : List (List ℕ)) → ((name : List ℕ) → contains same_text listed.now name ≡ has same_text name names) → result ≡ is_listed names statement.now }
+    ensures { (names : List (List ℕ)) → IsSetOf names listed.now → result ≡ is_listed names statement.now }
 {
     match statement {
         Statement::Annotated { name, .. } => listed.contains(name),
@@ -114,7 +110,7 @@ fn is_among(listed: &IndexSet<Text>, statement: &Statement) -> bool
 
 /// Adds the statement's name.
 fn note_name(alloc: Global, found: &mut IndexSet<Text>, statement: &Statement) -> Result<(), Memory>
-    ensures { OnOk result ((name : List ℕ) → contains same_text found.new name ≡ (contains same_text found.old name || has_name name statement.now)) }
+    ensures { OnOk result (GainsName found.old found.new statement.now) }
 {
     match statement {
         Statement::Annotated { name, .. } => {
@@ -127,8 +123,7 @@ fn note_name(alloc: Global, found: &mut IndexSet<Text>, statement: &Statement) -
 
 /// The first of the names that isn't in the set.
 fn missing<'a>(found: &IndexSet<Text>, names: &'a [Text]) -> Option<&'a Text>
-    ensures { (statements : List Statement) → ((name : List ℕ) → contains same_text found.now name ≡ list_any (has_name name) statements)
-        → MatchOption result (first_missing names.now statements ≡ None) (λ name. first_missing names.now statements ≡ Some name.now) }
+    ensures { MatchOption result (MissesNone found.now names.now) (λ name. MissesFirst found.now names.now name.now) }
 {
     for name in names {
         if !found.contains(name) {

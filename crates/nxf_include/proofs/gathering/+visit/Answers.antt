@@ -59,7 +59,7 @@ returns-in_err-add_selected-in-Include-clause-answers g t c =
     let h = refuses_selected _ (c.args.levels - 1) c.loop-statement.statements c.loop-statement.sum _ _ _ _ (files_of (map g.L.Library.shelf c.args.libraries.now)) c.in_ok-part-in-Include.part c.in_err-add_selected-in-Include.field-0.0 c.loop-statement.invariant.2
     (c.in-Some.ensures.steps.0 ∙ ap (λ s. s ∷ into_iter_items c.next.new.self) c.in-Include.is)
     (met_first _ _ (λ files. Visits files (c.args.levels - 1) c.loop-statement.sum c.in-Include.file) _ c.loop-statement.invariant.3 c.in_ok-part-in-Include.ensures.answers)
-    c.in_err-add_selected-in-Include.ensures in
+    c.in_err-add_selected-in-Include.ensures.refused in
     first_of (search rules, grind (arith, common_steps))
 
 pub returns-in_err-add_selected-in-Include-clause-keeps : goal.returns-in_err-add_selected-in-Include-clause-keeps
@@ -67,7 +67,7 @@ returns-in_err-add_selected-in-Include-clause-keeps g t c = Keeps-after _ _ _ c.
 
 pub loop-statement-preserved-in_ok-add_selected-in-Include : goal.loop-statement-preserved-in_ok-add_selected-in-Include
 loop-statement-preserved-in_ok-add_selected-in-Include g t c =
-    let kept = c.in_ok-add_selected-in-Include.ensures in
+    let kept = c.in_ok-add_selected-in-Include.ensures.added in
     let rest = into_iter_items c.next.new.self in
     let next = c.in-Some.ensures.steps.0 ∙ ap (λ s. s ∷ rest) c.in-Include.is in (
       tt,
@@ -83,7 +83,7 @@ loop-statement-preserved-in_ok-add_selected-in-Include g t c =
 
 pub loop-statement-preserved-in_ok-add_selected-in-Include-2 : goal.loop-statement-preserved-in_ok-add_selected-in-Include-2
 loop-statement-preserved-in_ok-add_selected-in-Include-2 g t c =
-    let kept = c.in_ok-add_selected-in-Include.ensures in
+    let kept = c.in_ok-add_selected-in-Include.ensures.added in
     let rest = into_iter_items c.next.new.self in
     let next = c.in-Some.ensures.steps.0 ∙ ap (λ s. s ∷ rest) c.in-Include.is in (
       tt,
