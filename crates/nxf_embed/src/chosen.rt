@@ -1,9 +1,6 @@
 //! The formulas of a file as statements, each by its part.
-ghost use Rattle.std.specs.Prelude.{◌≡◌, ◌≤◌, ◌<◌, ℕ, [], ◌∷◌, ◌++◌, List, length, drop, slice_get, Some, IfOk, OnOk};
+ghost use Rattle.std.specs.Prelude.{◌≤◌, ◌<◌, length, IfOk, OnOk};
 ghost use Rattle.nxf_tree.specs.WellFormed.{HasDifferentNames};
-ghost use Rattle.nxf_tree.specs.declared.tree.Formula.{Formula};
-ghost use Rattle.numbered_definitions.specs.declared.node.Numbered.{Numbered};
-ghost use Rattle.numbered_definitions.specs.NamedForm.{FormulaStatement, named, named_form, all_named};
 ghost use Rattle.nxf_embed.specs.steps.Chosen as spec;
 
 use crate::declare::formula_statement;
@@ -22,7 +19,7 @@ pub fn add_formulas(
     statements: &mut List<Statement>,
 ) -> Result<(), Memory>
     requires { HasDifferentNames checked.now.signature }
-    ensures { OnOk result ((fs : List FormulaStatement) → all_named checked.now.signature checked.now.formulas ≡ Some fs → statements.new ≡ statements.old ++ spec.chosen checked.now.signature fs parts.now) }
+    ensures { OnOk result (spec.AddsChosen checked.now parts.now statements.old statements.new) }
 {
     let mut next = 0;
     for at in 0..checked.len() {
@@ -44,9 +41,7 @@ fn add_formula(
     requires formula { at < length checked.now.formulas }
     requires within { next ≤ length parts.now }
     ensures within { IfOk result (λ after. after ≤ length parts.now) }
-    ensures added { let sig = checked.now.signature in
-        IfOk result (λ after. (n : Numbered) → slice_get checked.now.formulas at ≡ Some n → (f : FormulaStatement) → named sig n ≡ Some f
-        → (fs : List FormulaStatement) → statements.new ++ spec.chosen sig fs (drop after parts.now) ≡ statements.old ++ spec.chosen sig (f ∷ fs) (drop next parts.now)) }
+    ensures added { IfOk result (spec.AddsNext checked.now at parts.now next statements.old statements.new) }
 {
     if next >= parts.len() {
         return Ok(next);
@@ -68,9 +63,7 @@ fn part_statement(
 ) -> Result<Statement, Memory>
     requires different { HasDifferentNames checked.now.signature }
     requires formula { at < length checked.now.formulas }
-    ensures { let sig = checked.now.signature in
-        IfOk result (λ made. (n : Numbered) → slice_get checked.now.formulas at ≡ Some n → (f : Formula) → named_form sig [] n.node ≡ Some f
-        → made ≡ spec.part_statement sig n.name f part) }
+    ensures { IfOk result (spec.IsStatementAt checked.now at part) }
 {
     let label = checked.label(at).bytes();
     let root = checked.root(at);

@@ -1,9 +1,9 @@
 //! The declarations of the printed problem.
 ghost use Rattle.std.specs.Prelude.{◌≡◌, ◌∷◌, [], ◌++◌, IfOk, OnOk, map};
 ghost use Rattle.std.specs.Option.{option_map};
-ghost use Rattle.nxf_tree.specs.Names as spelled;
 ghost use Rattle.nxf_tree.specs.Problem as spec;
 ghost use Rattle.nxf_tree.specs.Problem.{role_named, classical_sort_at};
+ghost use Rattle.nxf_embed.specs.steps.Declared.{actual_declaration};
 
 use classical_syntax::{actual_name, world_name};
 use nxf_base::{List, Memory, Text};
@@ -96,7 +96,7 @@ fn declare_sort(
 
 /// The actual world is a constant of the sort of worlds.
 fn declare_actual(alloc: Global) -> Result<Statement, Memory>
-    ensures { IfOk result (λ statement. statement ≡ spec.declaration spelled.actual_name (Typing.Symbol spelled.actual_name [] (Some (SortName.User spelled.world_name)))) }
+    ensures { IfOk result (λ statement. statement ≡ actual_declaration) }
 {
     let name = actual_name(alloc)?;
     let sort = SortName::User(world_name(alloc)?);
