@@ -70,10 +70,7 @@ impl Binders {
             sort,
             hidden,
         };
-        match self.stack.push(binder) {
-            Ok(()) => {}
-            Err(_) => return Err(Memory),
-        }
+        self.stack.push(binder)?;
         match self.innermost.insert(key, (level, sort)) {
             Ok(_) => Ok(()),
             Err(_) => {

@@ -1,7 +1,7 @@
 //! Terms become numbers.
 
 ghost use Rattle.std.specs.Prelude.{◌≡◌, ◌++◌, ◌∷◌, [], OnOk, IfOk, IfErr, MatchResult, true, false, Some, None};
-ghost use Rattle.nxf_sorts.specs.steps.Numbering.{IsFault, IsGoodSignature, IsScope, wrong_symbol, FindsUse, use_fault, PutsSortedTerm, PutsArgument, PutsArguments, PutsEquation};
+ghost use Rattle.nxf_sorts.specs.steps.Numbering.{IsFault, IsGoodSignature, IsScope, wrong_symbol, FindsUse, Misuses, PutsSortedTerm, PutsArgument, PutsArguments, PutsEquation};
 ghost use Rattle.nxf_tree.specs.Sorting as sorting;
 ghost use Rattle.std.specs.List.{list_all};
 
@@ -18,10 +18,8 @@ use std::alloc::Global;
 pub fn put<T: Drop>(list: &mut List<T>, item: T) -> Result<(), Memory>
     ensures { OnOk result (list.new ≡ list.old ++ item ∷ []) }
 {
-    match list.push(item) {
-        Ok(()) => Ok(()),
-        Err(_) => Err(Memory),
-    }
+    list.push(item)?;
+    Ok(())
 }
 
 /// An empty list with room for that many items.
@@ -51,7 +49,7 @@ fn used_function<'a>(
     count: usize,
 ) -> Result<(u32, &'a List<u32>, u32), Fault>
     requires { IsGoodSignature names.now.signature }
-    ensures { MatchResult result (λ p. FindsUse names.now name.now count (Some p.2) p.0 p.1.now) (IsFault (use_fault names.now name.now count true)) }
+    ensures { MatchResult result (λ p. FindsUse names.now name.now count (Some p.2) p.0 p.1.now) (Misuses names.now name.now count true) }
 {
     if names.has_sort(name) {
         return Err(fault_of(alloc, SortKind::DoubleName, name.bytes()));
@@ -79,7 +77,7 @@ pub fn used_predicate<'a>(
     count: usize,
 ) -> Result<(u32, &'a List<u32>), Fault>
     requires { IsGoodSignature names.now.signature }
-    ensures { MatchResult result (λ p. FindsUse names.now name.now count None p.0 p.1.now) (IsFault (use_fault names.now name.now count false)) }
+    ensures { MatchResult result (λ p. FindsUse names.now name.now count None p.0 p.1.now) (Misuses names.now name.now count false) }
 {
     if names.has_sort(name) {
         return Err(fault_of(alloc, SortKind::DoubleName, name.bytes()));

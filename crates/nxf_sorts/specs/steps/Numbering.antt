@@ -114,12 +114,12 @@ pub record PutsSides (P : NTerm → NTerm → Type 0) (old new : Stored) (a b : 
   pub right : IsTerm new b
   pub holds : P (term_at new a) (term_at new b)
 
--- Calls that are given the names of a file. A symbol is used rightly with so many arguments, or has this fault.
+-- Calls that are given the names of a file. A symbol is used rightly with so many arguments, or this is its fault.
 abbrev pub FindsUse : Naming → List ℕ → ℕ → Option ℕ → ℕ → List ℕ → Type 0
 FindsUse names f count gives k args = Uses names.signature names.declared f count gives k args
 
-abbrev pub use_fault : Naming → List ℕ → ℕ → Bool → Option SortFault
-use_fault names f count of_function = symbol_fault (modal_language names.signature) names.declared f count of_function
+abbrev pub Misuses : Naming → List ℕ → ℕ → Bool → Fault → Type 0
+Misuses names f count of_function = IsFault (symbol_fault (modal_language names.signature) names.declared f count of_function)
 
 -- cells come behind the old ones that stand for the term, whose sort has the number beside it; or the error is the term's first fault
 abbrev pub PutsSortedTerm : Naming → Scope → Term → Stored → Stored → Result (ℕ × ℕ) Fault → Type 0

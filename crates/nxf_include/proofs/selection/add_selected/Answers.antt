@@ -10,8 +10,8 @@ returns-in-Some-missing-clause-refused c =
     selected_not c.args.file.now c.args.names.now names c.args.statements (c.in-Some.is ∙ ap Some (sym c.as_slice-names.ensures)) c.in-Some-missing.name.now c.no_such_name.result
     (c.in-Some-missing.ensures (filter (is_listed names) c.args.statements) c.in_ok-found.ensures.found) c.no_such_name.ensures
 
-pub returns-in-Ok-add_listed-clause-added : goal.returns-in-Ok-add_listed-clause-added
-returns-in-Ok-add_listed-clause-added c =
+pub returns-clause-added : goal.returns-clause-added
+returns-clause-added c =
     let names = c.as_slice-names.result.now in (
       filter (is_listed names) c.args.statements,
       selected_ok c.args.file.now c.args.names.now names c.args.statements (c.in-Some.is ∙ ap Some (sym c.as_slice-names.ensures))

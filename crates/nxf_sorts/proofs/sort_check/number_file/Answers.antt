@@ -11,7 +11,7 @@ use Rattle.nxf_tree.specs.SignatureOf.{firsts, same_symbol, signature_of}
 use Rattle.nxf_tree.specs.SortFaults.{SortFault, type_statement_fault, formula_statement_fault, overrides_fault}
 use Rattle.numbered_definitions.specs.NamedForm.{formulas_from}
 use Rattle.nxf_signatures.specs.Naming.{Naming}
-use Rattle.nxf_signatures.proofs.Noted.{type_first}
+use Rattle.nxf_signatures.proofs.CallerLemmas.{type_first}
 use Rattle.nxf_sorts.specs.steps.Numbering.{IsGoodSignature}
 use Rattle.nxf_sorts.specs.steps.Statements.{KnowsFile}
 use Rattle.signature_laws.proofs.SameFaults.{statements_same}
