@@ -42,6 +42,10 @@ sort_number sorts s = option_map (λ p. p.0) (numbered_from 0 (same_sort s) sort
 abbrev pub symbol_in : List TableEntry → List ℕ → Option (ℕ × TableEntry)
 symbol_in symbols name = numbered_from 0 (λ (entry : TableEntry). same_text entry.name name) symbols
 
+-- its number alone
+abbrev pub symbol_number : List TableEntry → List ℕ → Option ℕ
+symbol_number symbols name = option_map (λ p. p.0) (symbol_in symbols name)
+
 -- the names of a closure, where its sort is known
 abbrev pub listed_under : Option ℕ → List (List ℕ) → List (List ℕ × ℕ)
 listed_under None names = []
@@ -87,12 +91,19 @@ and_listing elements listing =
 abbrev pub and_listings : List (List ℕ × Element) → List (List ℕ × ℕ) → List (List ℕ × Element)
 and_listings elements listings = fold and_listing elements listings
 
+-- the elements that the closures among the parts list, and the names that its type statements declare
+abbrev pub elements_listed : List SortName → List Part → List (List ℕ × Element)
+elements_listed sorts parts = and_listings [] (flat_map (listings_of sorts) parts)
+
+abbrev pub names_declared : List Part → List (List ℕ)
+names_declared parts = insert_all same_text [] (flat_map declared_by parts)
+
 abbrev pub context_of : ClassicalSignature → List Part → Context
 context_of csig parts = record {
   sorts = csig.sorts;
   symbols = symbols_of csig;
-  elements = and_listings [] (flat_map (listings_of csig.sorts) parts);
-  declared = insert_all same_text [] (flat_map declared_by parts);
+  elements = elements_listed csig.sorts parts;
+  declared = names_declared parts;
 }
 
 abbrev pub element : Context → List ℕ → Option Element
@@ -113,3 +124,7 @@ is_known context name = is_some (symbol context name) || is_sort context name
 -- a name is extra where it is declared, and neither known nor listed
 abbrev pub is_extra : Context → List ℕ → Bool
 is_extra context name = list_any (same_text name) context.declared && not (is_known context name) && not (is_listed context name)
+
+-- a name that is neither known nor listed; where it is not extra, it is unknown
+abbrev pub is_unknown : Context → List ℕ → Bool
+is_unknown context name = not (is_known context name) && not (is_listed context name)

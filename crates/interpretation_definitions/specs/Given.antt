@@ -32,16 +32,20 @@ elements_of context = filter_map (element_of context)
 abbrev pub numbers_of : List Element → List ℕ
 numbers_of = map (λ e. e.number)
 
+-- the row alone
+abbrev pub row_given : ℕ → List ℕ → ℕ → List Given
+row_given place row value = record { place = place; row = row; value = value } ∷ []
+
 -- the row of a known symbol, and none of an extra one
 abbrev pub row_of : Option (ℕ × TableEntry) → List ℕ → ℕ → List Given
 row_of None row value = []
-row_of (Some known) row value = record { place = known.0; row = row; value = value } ∷ []
+row_of (Some known) row value = row_given known.0 row value
 
 -- the row of a function, with the element that is its value
 abbrev pub row_with : ℕ × TableEntry → Option ℕ → List ℕ → Option Element → List Given
 row_with known None row value = []
 row_with known (Some sort) row None = []
-row_with known (Some sort) row (Some e) = record { place = known.0; row = row; value = e.number } ∷ []
+row_with known (Some sort) row (Some e) = row_given known.0 row e.number
 
 abbrev pub valued_row : Option (ℕ × TableEntry) → List ℕ → Option Element → List Given
 valued_row None row value = []
@@ -65,7 +69,7 @@ stated context SaysNothing = []
 abbrev pub own_row : ℕ → List ℕ → Option ℕ → Option Element → List Given
 own_row place args gives None = []
 own_row place [] None (Some e) = []
-own_row place [] (Some sort) (Some e) = if nat_eq sort e.sort then record { place = place; row = []; value = e.number } ∷ [] else []
+own_row place [] (Some sort) (Some e) = if nat_eq sort e.sort then row_given place [] e.number else []
 own_row place (arg ∷ args) gives (Some e) = []
 
 abbrev pub own_rows_from : ℕ → Context → List TableEntry → List Given

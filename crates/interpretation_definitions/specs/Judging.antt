@@ -17,13 +17,16 @@ use Rattle.interpretation_definitions.specs.declared.fault.PartFault.{PartFault}
 use Rattle.interpretation_definitions.specs.declared.fault.PartFault.TheVariants.{Form, UnknownSymbol, UnknownElement, Clash}
 use Rattle.interpretation_definitions.specs.declared.element.Element.{Element}
 use Rattle.interpretation_definitions.specs.Parts.{Argument, plain_name, head_name, Part, Formless, Declares, Closes, Applies, Equates, Differs, AllDiffer, SaysNothing, parts_of, all_parts}
-use Rattle.interpretation_definitions.specs.Context.{Context, sort_number, listings_of, is_listed, is_sort, is_known, is_extra, symbol}
+use Rattle.interpretation_definitions.specs.Context.{Context, sort_number, listings_of, is_listed, is_sort, is_extra, is_unknown, symbol}
 use Rattle.interpretation_definitions.specs.Given.{Given, value_in, element_of, elements_of, numbers_of, bit, given_by}
 
 -- the tries in their order
 abbrev pub tried : Bool → Bool → Bool → Bool → Option PartFault
 tried form symbols elements clash =
-    if form then Some Form else (if symbols then Some UnknownSymbol else (if elements then Some UnknownElement else (if clash then Some Clash else None)))
+    if form then Some Form
+    else (if symbols then Some UnknownSymbol
+    else (if elements then Some UnknownElement
+    else (if clash then Some Clash else None)))
 
 -- a dropped part has no fault
 abbrev pub unless_dropped : Bool → Option PartFault → Option PartFault
@@ -66,13 +69,20 @@ abbrev pub atom_clash : List Given → Option (ℕ × TableEntry) → List Eleme
 atom_clash given None es value = false
 atom_clash given (Some known) es value = row_clash given known es value
 
+-- whether an atom has no form: an argument is no plain name, or what stands for the predicate is an element, a sort or no predicate with so many arguments
+abbrev pub atom_form : Context → Option (ℕ × TableEntry) → List ℕ → List Argument → Bool
+atom_form context known p args =
+    not (list_all is_plain args) || is_listed context p || is_sort context p || wrong_predicate known (length args)
+
+-- the tries of an atom
+abbrev pub atom_tried : Context → Option (ℕ × TableEntry) → List ℕ → List Argument → Bool → Option PartFault
+atom_tried context known p args clash =
+    tried (atom_form context known p args) (is_unknown context p) (list_any (is_unlisted context) args) clash
+
 abbrev pub atom_fault : Context → List Given → Bool → List ℕ → List Argument → Option PartFault
 atom_fault context given truth p args =
-    unless_dropped (is_extra context p) (tried
-    (not (list_all is_plain args) || is_listed context p || is_sort context p || wrong_predicate (symbol context p) (length args))
-    (not (is_known context p) && not (is_listed context p))
-    (list_any (is_unlisted context) args)
-    (atom_clash given (symbol context p) (elements_of context args) (bit truth)))
+    unless_dropped (is_extra context p)
+    (atom_tried context (symbol context p) p args (atom_clash given (symbol context p) (elements_of context args) (bit truth)))
 
 -- Functions.
 -- a name that is no known symbol but an element, or a predicate, or a function with another number of arguments
@@ -90,26 +100,39 @@ abbrev pub equation_clash : List Given → Option (ℕ × TableEntry) → List E
 equation_clash given None es value = false
 equation_clash given (Some known) es value = value_clash given known known.1.gives es value
 
+-- whether an equation has no form: an argument or the value is no plain name, or what stands for the function is a sort or no function with so many
+-- arguments
+abbrev pub equation_form : Context → Option (ℕ × TableEntry) → List ℕ → List Argument → Argument → Bool
+equation_form context known f args value =
+    not (list_all is_plain args) || not (is_plain value) || is_sort context f || wrong_function context f known (length args)
+
+-- the tries of an equation
+abbrev pub equation_tried : Context → Option (ℕ × TableEntry) → List ℕ → List Argument → Argument → Bool → Option PartFault
+equation_tried context known f args value clash =
+    tried
+    (equation_form context known f args value)
+    (is_unknown context f)
+    (list_any (is_unlisted context) args || is_unlisted context value)
+    clash
+
 abbrev pub equation_fault : Context → List Given → List ℕ → List Argument → Argument → Option PartFault
 equation_fault context given f args value =
-    unless_dropped (is_extra context f) (tried
-    (not (list_all is_plain args) || not (is_plain value) || is_sort context f || wrong_function context f (symbol context f) (length args))
-    (not (is_known context f) && not (is_listed context f))
-    (list_any (is_unlisted context) args || is_unlisted context value)
+    unless_dropped (is_extra context f)
+    (equation_tried context (symbol context f) f args value
     (equation_clash given (symbol context f) (elements_of context args) (element_of context value)))
 
 -- Disequations.
 abbrev pub same_element : Element → Element → Bool
 same_element d e = nat_eq d.sort e.sort && nat_eq d.number e.number
 
--- whether the first is of another sort than one of the others, or the same as one
-abbrev pub meets_one : Element → List Element → Bool
-meets_one e es = list_any (λ d. not (nat_eq d.sort e.sort) || nat_eq d.number e.number) es
+-- whether one of the elements is of another sort than the first
+abbrev pub two_sorts : List Element → Bool
+two_sorts [] = false
+two_sorts (e ∷ es) = list_any (λ (d : Element). not (nat_eq d.sort e.sort)) es
 
--- whether two of the elements are of two sorts, or the same
-abbrev pub two_clash : List Element → Bool
-two_clash [] = false
-two_clash (e ∷ es) = meets_one e es || two_clash es
+-- whether elements of two sorts are named, or one element twice
+abbrev pub differ_clash : List Element → Bool
+differ_clash es = two_sorts es || not (all_different same_element es)
 
 abbrev pub differ_fault : Context → Bool → List Argument → Option PartFault
 differ_fault context dropped args =
@@ -117,16 +140,18 @@ differ_fault context dropped args =
     (not (list_all is_plain args))
     false
     (list_any (is_unlisted context) args)
-    (two_clash (elements_of context args)))
+    (differ_clash (elements_of context args)))
+
+abbrev pub pair_fault : Context → Argument → Argument → Option PartFault
+pair_fault context left right = differ_fault context (has_extra_head context left) (left ∷ right ∷ [])
+
+abbrev pub distinct_fault : Context → List Argument → Option PartFault
+distinct_fault context args = differ_fault context (list_any (has_extra_head context) args) args
 
 -- Closures.
--- whether a part is a closure of the known sort
-abbrev pub closes : List SortName → ℕ → Part → Bool
-closes sorts sort part = list_any (λ listing. nat_eq listing.1 sort) (listings_of sorts part)
-
--- the names that were listed before
-abbrev pub names_before : Context → List Part → List (List ℕ)
-names_before context before = map (λ listing. listing.0) (flat_map (listings_of context.sorts) before)
+-- the names that were listed before, each with its sort
+abbrev pub listings_before : Context → List Part → List (List ℕ × ℕ)
+listings_before context before = flat_map (listings_of context.sorts) before
 
 -- whether a symbol is a constant of the sort
 abbrev pub is_constant_of : ℕ → List ℕ → Option ℕ → Bool
@@ -142,13 +167,17 @@ symbol_of_another sort (Some known) = not (is_constant_of sort known.1.args know
 abbrev pub is_taken : Context → ℕ → List ℕ → Bool
 is_taken context sort name = is_sort context name || symbol_of_another sort (symbol context name)
 
-abbrev pub closure_clash : Context → List Part → Option ℕ → List (List ℕ) → Bool
-closure_clash context before None names = false
-closure_clash context before (Some sort) names =
-    list_any (closes context.sorts sort) before
-    || list_any (λ name. has same_text name (names_before context before)) names
+-- whether the sort had a closure before, or a name was listed before, or stands twice in the closure, or can't be listed
+abbrev pub listing_clash : Context → List (List ℕ × ℕ) → ℕ → List (List ℕ) → Bool
+listing_clash context listings sort names =
+    list_any (λ listing. nat_eq listing.1 sort) listings
+    || list_any (λ name. has same_text name (map (λ listing. listing.0) listings)) names
     || not (all_different same_text names)
     || list_any (is_taken context sort) names
+
+abbrev pub closure_clash : Context → List Part → Option ℕ → List (List ℕ) → Bool
+closure_clash context before None names = false
+closure_clash context before (Some sort) names = listing_clash context (listings_before context before) sort names
 
 abbrev pub extra_sort : Context → SortName → Bool
 extra_sort context Individual = false
@@ -164,12 +193,12 @@ closure_fault context before s names =
 
 -- Declarations.
 -- whether the number is that of the sort
+abbrev pub same_at : SortName → Option SortName → Bool
+same_at s None = false
+same_at s (Some t) = same_sort t s
+
 abbrev pub is_sort_at : List SortName → ℕ → SortName → Bool
-is_sort_at sorts k s = same_at (slice_get sorts k)
-  where
-    same_at : Option SortName → Bool
-    same_at None = false
-    same_at (Some t) = same_sort t s
+is_sort_at sorts k s = same_at s (slice_get sorts k)
 
 abbrev pub same_sorts : List SortName → List ℕ → List SortName → Bool
 same_sorts sorts [] [] = true
@@ -196,7 +225,10 @@ moved context (Some e) args gives = not (same_sorts context.sorts [] args && sam
 abbrev pub declaration_clash : Context → Typing → Bool
 declaration_clash context typing.Individual = false
 declaration_clash context (typing.Sort s) = is_some (symbol context s) || is_listed context s
-declaration_clash context (typing.Symbol f args gives) = is_sort context f || retyped context (symbol context f) args gives || moved context (element_of context (Argument.Plain f)) args gives
+declaration_clash context (typing.Symbol f args gives) =
+    is_sort context f
+    || retyped context (symbol context f) args gives
+    || moved context (element_of context (Argument.Plain f)) args gives
 
 -- the fault of a part after the parts before it
 abbrev pub part_fault : Context → List Part → Part → Option PartFault
@@ -205,8 +237,8 @@ part_fault context before (Declares t) = tried false false false (declaration_cl
 part_fault context before (Closes s names) = closure_fault context before s names
 part_fault context before (Applies truth p args) = atom_fault context (given_by context before) truth p args
 part_fault context before (Equates f args value) = equation_fault context (given_by context before) f args value
-part_fault context before (Differs left right) = differ_fault context (has_extra_head context left) (left ∷ right ∷ [])
-part_fault context before (AllDiffer args) = differ_fault context (list_any (has_extra_head context) args) args
+part_fault context before (Differs left right) = pair_fault context left right
+part_fault context before (AllDiffer args) = distinct_fault context args
 part_fault context before SaysNothing = None
 
 -- the first fault of parts after the parts before them

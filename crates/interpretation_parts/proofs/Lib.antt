@@ -1,0 +1,11 @@
+pub mod ItemFaults
+pub mod ItemLemmas
+pub mod AfterLemmas
+pub mod BelowLemmas
+pub mod ClosureLemmas
+pub mod DeclarationLemmas
+pub mod ReadingLemmas
+pub mod RowLemmas
+pub mod SeenLemmas
+pub mod SetLemmas
+pub mod TableLemmas
