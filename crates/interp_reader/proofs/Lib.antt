@@ -1,0 +1,9 @@
+pub mod FillLemmas
+pub mod FinishLemmas
+pub mod GivenLemmas
+pub mod LimitLemmas
+pub mod OwnLemmas
+pub mod Passing
+pub mod PlaceLemmas
+pub mod ReadLemmas
+pub mod TableWalks
