@@ -9,7 +9,7 @@ use Rattle.nxf_tree.specs.declared.tree.TableEntry.{TableEntry}
 use Rattle.nxf_tree.specs.declared.tree.ClassicalSignature.{ClassicalSignature}
 use Rattle.nxf_tree.specs.Names.{same_text}
 use Rattle.interpretation_definitions.specs.Interpretation.{GivenRows, incomplete_from, is_incomplete, rows_of}
-use Rattle.interpretation_parts.proofs.TableLemmas.{same_text-true}
+use Rattle.interpretation_parts.proofs.CallerLemmas.{same_text-true}
 use Rattle.fin_struct.specs.Cells.{cell, table_at}
 use Rattle.fin_struct.specs.Places.{InRange}
 use Rattle.fin_struct.specs.StructureTables.{StructureTables}

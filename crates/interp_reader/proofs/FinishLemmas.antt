@@ -13,9 +13,7 @@ use Rattle.fin_struct.specs.Cells.{CellTable, bound_of, cell, no_table, table_at
 use Rattle.fin_struct.specs.Places.{InRange, place, rows_count}
 use Rattle.fin_struct.specs.RowLists.{AreFilled, IsFilled, blanks, shape_of, shapes_of}
 use Rattle.fin_struct.specs.StructureTables.{StructureTables, blank_structure}
-use Rattle.fin_struct.proofs.PlacesLemmas.{place_below}
-use Rattle.fin_struct.proofs.RowListsLemmas.{all_rows-at, length-all_rows, place-row_at, row_at, row_at-in_range}
-use Rattle.fin_struct.proofs.StructureLemmas.{filled_tail, shapes_blank}
+use Rattle.fin_struct.proofs.CallerLemmas.{place_below, all_rows-at, length-all_rows, place-row_at, row_at, row_at-in_range, filled_tail, shapes_blank}
 use Rattle.interpretation_definitions.specs.Interpretation.{GivenRows, is_incomplete, structure_given, table_given, tables_from, value_or_0}
 use Rattle.interp_reader.specs.steps.Filling.{filled_below, is_half_given, rows_at, rows_in, AreBelow, FitsTable, IsBlankAt, IsFilledBelow, IsFilledTo, row_value_or_0}
 use Rattle.interp_reader.proofs.TableWalks.{same_sizes, same_count, shape_at}

@@ -11,7 +11,7 @@ use Rattle.nxf_tree.specs.Structures.{table_shapes}
 use Rattle.fin_struct.specs.Limits.{cells_in, cells_of}
 use Rattle.fin_struct.specs.RowLists.{shapes_of}
 use Rattle.fin_struct.specs.StructureTables.{StructureTables, IsStructure, blank_structure}
-use Rattle.fin_struct.proofs.StructureLemmas.{shapes_blank}
+use Rattle.fin_struct.proofs.CallerLemmas.{shapes_blank}
 use Rattle.interpretation_definitions.specs.declared.error.InterpError.{InterpError}
 use Rattle.interpretation_definitions.specs.declared.error.InterpError.TheVariants as error
 use Rattle.interpretation_definitions.specs.Context.{actual_entry, symbols_of}

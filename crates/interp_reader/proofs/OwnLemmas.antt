@@ -10,7 +10,7 @@ use Rattle.interpretation_definitions.specs.Context.{Context, element}
 use Rattle.interpretation_definitions.specs.Given.{Given, own_row, own_rows_from, value_in}
 use Rattle.interpretation_parts.specs.steps.Held.{HasRows}
 use Rattle.interpretation_parts.specs.steps.Tables.{written}
-use Rattle.interpretation_parts.proofs.TableLemmas.{same_text-sym}
+use Rattle.interpretation_parts.proofs.CallerLemmas.{same_text-sym}
 use Rattle.interp_reader.specs.steps.Own.{own_value, row_at}
 
 -- a row in front of the others

@@ -24,9 +24,7 @@ use Rattle.interpretation_definitions.specs.Interpretation.{interpretation_of, k
 use Rattle.interpretation_parts.specs.steps.After.{RefusesFault}
 use Rattle.interpretation_parts.specs.steps.Held.{HasRows}
 use Rattle.interpretation_parts.specs.steps.Items.{item_fault, numbered, numbered_parts}
-use Rattle.interpretation_parts.proofs.BelowLemmas.{AllBelow, IsContextOf, found_below, given_below, listings_counted}
-use Rattle.interpretation_parts.proofs.ItemFaults.{fault_of_items}
-use Rattle.interpretation_parts.proofs.ItemLemmas.{map-append}
+use Rattle.interpretation_parts.proofs.CallerLemmas.{AllBelow, IsContextOf, found_below, given_below, listings_counted, fault_of_items, map-append}
 use Rattle.interp_reader.specs.Refusals.{Refuses}
 use Rattle.interp_reader.specs.steps.Filling.{AreBelow, rows_in}
 use Rattle.interp_reader.specs.steps.Whole.{faultless, items_give, parts_of_items}

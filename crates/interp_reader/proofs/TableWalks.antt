@@ -8,11 +8,8 @@ use Rattle.fin_struct.specs.Cells.{CellTable, OthersStay, bound_of, cell, no_tab
 use Rattle.fin_struct.specs.Places.{InRange, place, rows_count}
 use Rattle.fin_struct.specs.RowLists.{AreFilled, shape_of, shapes_of}
 use Rattle.fin_struct.specs.StructureTables.{StructureTables}
-use Rattle.fin_struct.proofs.PlacesLemmas.{place_below}
-use Rattle.fin_struct.proofs.RowListsLemmas.{all_rows-at, length-all_rows, place-row_at, row_at, row_at-in_range}
-use Rattle.fin_struct.proofs.StructureLemmas.{written_filled}
-use Rattle.fin_struct.proofs.WalkLemmas.{walk-next}
-use Rattle.interpretation_parts.proofs.RowLemmas.{map_length}
+use Rattle.fin_struct.proofs.CallerLemmas.{place_below, all_rows-at, length-all_rows, place-row_at, row_at, row_at-in_range, written_filled, walk-next}
+use Rattle.interpretation_parts.proofs.CallerLemmas.{map_length}
 use Rattle.interp_reader.specs.steps.Filling.{IsAt, IsFilledTo, has_all, row_value, row_value_or_0}
 
 pub shape_at : (tables : List CellTable) (t : ℕ) → get_or (shapes_of tables) t (shape_of no_table) ≡ shape_of (table_at tables t)

@@ -1,9 +1,10 @@
-pub mod ItemFaults
-pub mod ItemLemmas
 pub mod AfterLemmas
 pub mod BelowLemmas
+pub mod CallerLemmas
 pub mod ClosureLemmas
 pub mod DeclarationLemmas
+pub mod ItemFaults
+pub mod ItemLemmas
 pub mod ReadingLemmas
 pub mod RowLemmas
 pub mod SeenLemmas

@@ -5,7 +5,7 @@ use Rattle.interpretation_definitions.specs.Context.{element}
 use Rattle.interpretation_definitions.specs.Given.{Given}
 use Rattle.interpretation_parts.specs.steps.Held.{context_in, HasRows}
 use Rattle.interpretation_parts.specs.steps.Tables.{written}
-use Rattle.interpretation_parts.proofs.AfterLemmas.{on_ok}
+use Rattle.interpretation_parts.proofs.CallerLemmas.{on_ok}
 use Rattle.interp_reader.specs.steps.Own.{own_value, row_at}
 use Rattle.interp_reader.proofs.OwnLemmas.{has_rows_front, own_is}
 use Rattle.interp_reader.proofs.own.give_own.Goals as goal

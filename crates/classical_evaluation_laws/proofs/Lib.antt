@@ -1,0 +1,9 @@
+pub mod SatCases
+pub mod TableTypes
+pub mod TableNames
+pub mod NodeLemmas
+pub mod DepthLemmas
+pub mod FitsLemmas
+pub mod GoodSignatures
+pub mod Evaluation
+pub mod FaultLemmas

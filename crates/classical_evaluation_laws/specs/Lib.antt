@@ -1,0 +1,2 @@
+pub mod ClassicalLaws
+pub mod ClassicalFaultLaws

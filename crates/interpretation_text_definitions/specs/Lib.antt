@@ -1,0 +1,2 @@
+pub mod ElementNames
+pub mod InterpretationText
