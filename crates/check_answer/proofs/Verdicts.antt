@@ -1,0 +1,75 @@
+-- From what the parts of `check` promise to its answer.
+use Rattle.std.proofs.Common.{◌≡◌, ◌≤◌, ℕ, List, Some, Result, Ok, Err, refl, sym, ap, subst, ◌∙◌, arith}
+use Rattle.std.specs.Prelude.{◌⊎◌, min, IfErr, IsErrAnd}
+use mathlib.Core.Logic.{inl, inr}
+use Rattle.nxf_base.specs.declared.status.Status.{Status}
+use Rattle.nxf_base.specs.declared.status.Status.TheVariants as status
+use Rattle.tptp_lex.specs.declared.token.Token.{Token}
+use Rattle.tptp_lex.specs.Lexing.{Lexes}
+use Rattle.nxf_tree.specs.declared.tree.Signature.{Signature}
+use Rattle.nxf_tree.specs.declared.tree.PartEntry.{PartEntry}
+use Rattle.nxf_tree.specs.Rows.{Shape}
+use Rattle.nxf_tree.specs.Structures.{KripkeStructure}
+use Rattle.fin_struct.specs.declared.condition.Condition.{Condition}
+use Rattle.fin_struct.specs.Limits.{cells_in}
+use Rattle.fin_struct.specs.KripkeTables.{KripkeTables, IsKripke, IsKripkeFor, kripke_structure}
+use Rattle.fin_struct.proofs.BlankKripke.{classical-shapes}
+use Rattle.structure_laws.proofs.KripkeLists.{kripke-law}
+use Rattle.plain_tokens.specs.PlainTokens.{plains_of}
+use Rattle.formula_cells.specs.Checked.{CheckedFile}
+use Rattle.kripke_text_definitions.specs.declared.error.KripkeTextError.{KripkeTextError}
+use Rattle.kripke_text_definitions.specs.declared.error.KripkeTextError.TheVariants.{Form, TooManyWorlds, TooBig, Memory}
+use Rattle.kripke_text_definitions.specs.Reading.{AreFew, Explains}
+use Rattle.kripke_text.specs.Texts.{IsTextOf}
+use Rattle.answer_definitions.specs.Answer.{OrMemory}
+use Rattle.answer_definitions.specs.Check.{ChecksText}
+use Rattle.answer_definitions.specs.FaultNames.{fails_of}
+use Rattle.answer_definitions.specs.KripkeFile.{ReadsStructure, not_lexed, not_text, read, status_of_text}
+use Rattle.check_answer.specs.steps.Judging.{IsFaultOf}
+use Rattle.check_answer.specs.steps.Refusing.{IsLexRefusal}
+
+-- an error that is handed on
+pub handed_on : {X : Type 0} (r : Result X Status) (P : Status → Type 0) (e : Status) → IsErrAnd r (λ (x : Status). x ≡ e) → P e → IfErr r P
+handed_on (Ok x) P e is h = absurd is
+handed_on (Err x) P e is h = subst P (sym is) h
+
+-- ---- the bytes
+
+-- a structure is within the limits
+few_of : (sig : Signature) (view : KripkeTables) → IsKripke view → IsKripkeFor sig view → AreFew sig view.worlds view.sizes
+few_of sig view is for_sig =
+    let shapes = for_sig.shapes ∙ sym (classical-shapes sig view.worlds view.sizes) in
+    record {
+      few_worlds = is.within.few_worlds;
+      few_cells = small _ (subst (λ (c : List Shape). cells_in c ≤ 4194304) shapes is.within.few_cells);
+    }
+  where
+    small : (n : ℕ) → n ≤ 4194304 → min n 18446744073709551615 ≤ 4194304
+    small n h = omega arith
+
+module _ (sig : Signature) (name bytes : List ℕ) where
+  pub not_lexed_as : (s : Status) → OrMemory (IsLexRefusal name bytes) s → OrMemory (λ s. ReadsStructure sig name bytes (Err s)) s
+  not_lexed_as s (inl refusal) = inl (subst (λ (t : Status). ReadsStructure sig name bytes (Err t)) (sym refusal.status_is) (not_lexed refusal.at refusal.bad))
+  not_lexed_as s (inr e) = inr e
+
+  module _ (tokens : List Token) (lexed : Lexes bytes tokens) where
+    pub read_as : (view : KripkeTables) → IsTextOf sig view (plains_of bytes tokens) → ReadsStructure sig name bytes (Ok (kripke_structure view))
+    read_as view text =
+        read (kripke_structure view)
+        (record { tokens = tokens; lexed = lexed; over = kripke-law sig view text.within text.over; tokens_are = text.tokens_are })
+        (few_of sig view text.within text.over)
+
+    refused_by : (e : KripkeTextError) → Explains sig (plains_of bytes tokens) e → OrMemory (λ s. ReadsStructure sig name bytes (Err s)) (status_of_text e)
+    refused_by (Form k) h = inl (not_text tokens (Form k) lexed h (λ is. absurd cc))
+    refused_by (TooManyWorlds n) h = inl (not_text tokens (TooManyWorlds n) lexed h (λ is. absurd cc))
+    refused_by (TooBig n) h = inl (not_text tokens (TooBig n) lexed h (λ is. absurd cc))
+    refused_by Memory h = inr refl
+
+    pub refused_as : (e : KripkeTextError) (s : Status) → s ≡ status_of_text e → Explains sig (plains_of bytes tokens) e → OrMemory (λ s. ReadsStructure sig name bytes (Err s)) s
+    refused_as e s is h = subst (OrMemory (λ s. ReadsStructure sig name bytes (Err s))) (sym is) (refused_by e h)
+
+-- ---- the verdict
+
+pub has_fault : (checked : CheckedFile) (parts : List PartEntry) (name bytes : List ℕ) (K : KripkeStructure) (fault : Condition) (s : Status) → ReadsStructure checked.signature name bytes (Ok K) → (s ≡ status.NotCountermodel (fails_of checked.signature fault)) ⊎ (s ≡ status.Memory) → IsFaultOf checked parts K (Some fault) → OrMemory (λ s. ChecksText checked parts name bytes (Err s)) s
+has_fault checked parts name bytes K fault s reads (inl is) found = inl (λ file h. record { reading = Ok K; reads = reads; judged = (Some fault, found file h, ap Err is) })
+has_fault checked parts name bytes K fault s reads (inr e) found = inr e
