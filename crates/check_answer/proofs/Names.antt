@@ -1,6 +1,7 @@
 -- Names by their numbers.
-use Rattle.std.proofs.Common.{◌≡◌, ℕ, zero, suc, List, [], ◌∷◌, None, Some, refl, ap}
+use Rattle.std.proofs.Common.{◌≡◌, ℕ, zero, suc, ◌<◌, ◌≤◌, List, [], ◌∷◌, length, get_or, None, Some, refl, sym, ap, subst, ◌∙◌}
 use Rattle.std.specs.Prelude.{slice_get}
+use Rattle.std.proofs.lemmas.Option.{slice_get_read, slice_get_past}
 use Rattle.nxf_tree.specs.declared.tree.SortEntry.{SortEntry}
 use Rattle.nxf_tree.specs.declared.tree.SymbolEntry.{SymbolEntry}
 use Rattle.nxf_tree.specs.declared.tree.IndexEntry.{IndexEntry}
@@ -39,3 +40,13 @@ pub no_sort : (entries : List SortEntry) (s : ℕ) → slice_get entries s ≡ N
 no_sort [] s h = refl
 no_sort (first ∷ entries) zero h = absurd cc
 no_sort (first ∷ entries) (suc s) h = no_sort entries s h
+
+-- ---- what is said of the name that is read under a number
+
+module _ {A B : Type 0} (name_at : List A → ℕ → B) (entries given : List A) (i : ℕ) (same_list : given ≡ entries) (IsSaid : B → Type 0) where
+  pub said_of_entry : (entry : A) (name : B) → (slice_get given i ≡ Some entry → name_at given i ≡ name) → i < length given → entry ≡ get_or given i entry → IsSaid name → IsSaid (name_at entries i)
+  said_of_entry entry name there below is said =
+      subst IsSaid (sym (there (slice_get_read given _ i entry refl below is)) ∙ ap (λ (xs : List A). name_at xs i) same_list) said
+
+  pub said_of_none : (name : B) → (slice_get given i ≡ None → name_at given i ≡ name) → length given ≤ i → IsSaid name → IsSaid (name_at entries i)
+  said_of_none name nothing past said = subst IsSaid (sym (nothing (slice_get_past given i past)) ∙ ap (λ (xs : List A). name_at xs i) same_list) said

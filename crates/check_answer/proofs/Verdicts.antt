@@ -13,7 +13,7 @@ use Rattle.nxf_tree.specs.Structures.{KripkeStructure}
 use Rattle.fin_struct.specs.declared.condition.Condition.{Condition}
 use Rattle.fin_struct.specs.Limits.{cells_in}
 use Rattle.fin_struct.specs.KripkeTables.{KripkeTables, IsKripke, IsKripkeFor, kripke_structure}
-use Rattle.fin_struct.proofs.BlankKripke.{classical-shapes}
+use Rattle.fin_struct.proofs.CallerLemmas.{classical-shapes}
 use Rattle.structure_laws.proofs.KripkeLists.{kripke-law}
 use Rattle.plain_tokens.specs.PlainTokens.{plains_of}
 use Rattle.formula_cells.specs.Checked.{CheckedFile}

@@ -7,12 +7,12 @@ use Rattle.std.proofs.lemmas.Bool.Decides.{eqb_tells}
 use Rattle.std.proofs.lemmas.List.{ext_get_or, get_or-map, length-map}
 use Rattle.nxf_tree.specs.declared.tree.TableEntry.{TableEntry}
 use Rattle.nxf_tree.specs.declared.tree.ClassicalSignature.{ClassicalSignature}
-use Rattle.nxf_tree.specs.Rows.{Shape, all_rows, size_at}
+use Rattle.nxf_tree.specs.Rows.{AreSizes, Shape, all_rows, size_at}
 use Rattle.nxf_tree.specs.Structures.{table_shape, table_shapes}
 use Rattle.fin_struct.specs.Cells.{CellTable, bound_of, cell, no_table, table_at}
 use Rattle.fin_struct.specs.Places.{InRange, place, rows_count}
 use Rattle.fin_struct.specs.RowLists.{AreFilled, IsFilled, blanks, shape_of, shapes_of}
-use Rattle.fin_struct.specs.StructureTables.{StructureTables, blank_structure}
+use Rattle.fin_struct.specs.StructureTables.{StructureTables, IsFor, blank_structure}
 use Rattle.fin_struct.proofs.CallerLemmas.{place_below, all_rows-at, length-all_rows, place-row_at, row_at, row_at-in_range, filled_tail, shapes_blank}
 use Rattle.interpretation_definitions.specs.Interpretation.{GivenRows, is_incomplete, structure_given, table_given, tables_from, value_or_0}
 use Rattle.interp_reader.specs.steps.Filling.{filled_below, is_half_given, rows_at, rows_in, AreBelow, FitsTable, IsBlankAt, IsFilledBelow, IsFilledTo, row_value_or_0}
@@ -170,3 +170,11 @@ half_false true complete h is = cc
 pub half_true : (half complete : Bool) → complete ≡ not half → complete ≡ false → half ≡ true
 half_true true complete h is = refl
 half_true false complete h is = cc
+
+-- the structure that rows give has what the signature names
+given_shapes : (sizes : List ℕ) (given : GivenRows) (k : ℕ) (entries : List TableEntry) → shapes_of (tables_from k sizes given entries) ≡ table_shapes sizes entries
+given_shapes sizes given k [] = refl
+given_shapes sizes given k (entry ∷ entries) = ap (λ ss. table_shape sizes entry ∷ ss) (given_shapes sizes given (suc k) entries)
+
+pub given_fits : (csig : ClassicalSignature) (sizes : List ℕ) (given : GivenRows) (S : StructureTables) → AreSizes csig.sorts sizes → S ≡ structure_given sizes given csig.tables → IsFor csig S
+given_fits csig sizes given S sorts is = subst (IsFor csig) (sym is) (record { sorts = sorts; shapes = given_shapes sizes given 1 csig.tables })

@@ -21,9 +21,10 @@ use Rattle.interpretation_definitions.specs.Parts.{Part, all_parts, parts_of}
 use Rattle.interpretation_definitions.specs.Context.{Context, actual_entry, context_of, count_for, elements_listed, listings_of, symbols_of}
 use Rattle.interpretation_definitions.specs.Given.{Given, given_by, own_rows, value_in}
 use Rattle.interpretation_definitions.specs.Interpretation.{interpretation_of, kind_of, sizes_from, sizes_of, unless_fault, within_limits}
+use Rattle.interpretation_parts.specs.declared.items.Item.{Item}
 use Rattle.interpretation_parts.specs.steps.After.{RefusesFault}
 use Rattle.interpretation_parts.specs.steps.Held.{HasRows}
-use Rattle.interpretation_parts.specs.steps.Items.{item_fault, numbered, numbered_parts}
+use Rattle.interpretation_parts.specs.steps.Items.{item_fault, items_in, numbered, numbered_parts, parts_in_items}
 use Rattle.interpretation_parts.proofs.CallerLemmas.{AllBelow, IsContextOf, found_below, given_below, listings_counted, fault_of_items, map-append}
 use Rattle.interp_reader.specs.Refusals.{Refuses}
 use Rattle.interp_reader.specs.steps.Filling.{AreBelow, rows_in}
@@ -123,3 +124,14 @@ frame_sizes csig known parts elements counts slice sizes own listed same counted
     is ∙ ap (map (max 1)) lent ∙ sizes_are elements counts known.sorts same counted
     ∙ ap (λ es. sizes_from 0 es known.sorts) listed
     ∙ ap (λ (k : ClassicalSignature). sizes_from 0 (elements_listed k.sorts parts) k.sorts) own
+
+-- the limits of the sizes and rows that were read are the rest of the definition
+pub whole_read : (csig : ClassicalSignature) (file : File) (items others : List Item) (held : Context) (sizes : List ℕ) (entries : List (List ℕ × ℕ)) → others ≡ items
+    → items_in items ≡ numbered_parts 1 file.statements → held ≡ context_of csig (parts_in_items items) → sizes ≡ sizes_of (context_of csig (parts_in_items items))
+    → item_fault held [] (items_in others) ≡ None → HasRows entries (given_by held (parts_in_items others)) → within_limits sizes (rows_in entries) csig ≡ interpretation_of csig file
+whole_read csig file items others held sizes entries same numbers context is none has =
+    answered csig (items_in items) sizes entries
+    (subst (λ x. item_fault x [] (items_in items) ≡ None) context (subst (λ xs. item_fault held [] (items_in xs) ≡ None) same none))
+    (subst (λ x. HasRows entries (given_by x (parts_in_items items))) context (subst (λ xs. HasRows entries (given_by held (parts_in_items xs))) same has))
+    is
+    ∙ ap (items_give csig) numbers ∙ file_gives csig file

@@ -1,5 +1,5 @@
 -- Why a file gives no structure.
-use Rattle.std.specs.Prelude.{◌≡◌, ℕ, List, Option, Some, Result, Ok, Err}
+use Rattle.std.specs.Prelude.{◌≡◌, ℕ, List, Option, Some, Result, Err}
 use Rattle.nxf_base.specs.declared.status.InterpKind.TheVariants as kind
 use Rattle.nxf_tree.specs.declared.tree.ClassicalSignature.{ClassicalSignature}
 use Rattle.fin_struct.specs.declared.limits.ShapeError.TheVariants as shape
@@ -14,11 +14,6 @@ Refuses answer (Kind kind) = answer ≡ Err (Kind kind)
 Refuses answer (TooManyWorlds worlds) = answer ≡ Err (TooManyWorlds worlds)
 Refuses answer (TooBig cells) = answer ≡ Err (TooBig cells)
 Refuses answer Memory = Unit {0}
-
--- the structure of the definition, or a refusal
-abbrev pub Answers : Result StructureTables InterpError → Result StructureTables InterpError → Type 0
-Answers answer (Ok S) = answer ≡ Ok S
-Answers answer (Err e) = Refuses answer e
 
 -- the refusal of a shape, as one of an interpretation
 abbrev pub RefusesAs : ClassicalSignature → List ℕ → InterpError → Type 0

@@ -1,14 +1,14 @@
 //! The structure with given sizes, filled from the map of rows.
-ghost use Rattle.std.specs.Prelude.{◌≡◌, ℕ, List, [], ◌+◌, ◌<◌, ◌^◌, length, not, is_some, Some, IfOk, IfErr, OnOk, IsTrue, None};
+ghost use Rattle.std.specs.Prelude.{◌≡◌, ℕ, List, [], ◌+◌, ◌<◌, ◌^◌, length, is_some, Some, Ok, IfOk, IfErr, OnOk, IsTrue, None};
 ghost use Rattle.nxf_tree.specs.declared.tree.ClassicalSignature.{ClassicalSignature as Over};
 ghost use Rattle.nxf_tree.specs.Rows.{size_at, AreSizes};
 ghost use Rattle.classical_signature_laws.specs.ClassicalSignatures.{HasSorts};
 ghost use Rattle.fin_struct.specs.Limits.{RefusesShape};
-ghost use Rattle.fin_struct.specs.StructureTables.{blank_structure, IsStructure};
+ghost use Rattle.fin_struct.specs.StructureTables.{blank_structure, IsFor, IsStructure};
 ghost use Rattle.interpretation_definitions.specs.Context.{symbols_of};
 ghost use Rattle.interpretation_definitions.specs.Interpretation.{incomplete_from, structure_given, within_limits};
-ghost use Rattle.interp_reader.specs.Refusals.{Answers, RefusesAs, RefusesSymbol};
-ghost use Rattle.interp_reader.specs.steps.Filling.{rows_in, is_half_given, rows_at, row_value, AreBelow, ArePlaces};
+ghost use Rattle.interp_reader.specs.Refusals.{Refuses, RefusesAs, RefusesSymbol};
+ghost use Rattle.interp_reader.specs.steps.Filling.{are_settled, rows_in, rows_at, row_value, AreBelow, ArePlaces};
 ghost use Rattle.interp_reader.specs.steps.Filling.{FillsTable, FitsTable, IsBlankAt, IsFilledBelow, SetsActual};
 
 use crate::places::given_places;
@@ -81,7 +81,7 @@ fn fill_one(
     requires below { FitsTable rows.now.entries structure.old table }
     requires places { ArePlaces places.now.keys rows.now.entries }
     requires blank { IsBlankAt structure.old table }
-    ensures complete { IfOk result (λ complete. complete ≡ not (is_half_given rows.now.entries (table + 1) (rows_at structure.old table))) }
+    ensures complete { IfOk result (λ complete. complete ≡ are_settled rows.now.entries (table + 1) (rows_at structure.old table)) }
     ensures filled { IfOk result (λ complete. IsTrue complete → FillsTable rows.now.entries table structure.old structure.new) }
 {
     if places.contains(&(table + 1)) {
@@ -162,7 +162,9 @@ pub fn fill(
     requires sizes { AreSizes over.now.sorts sizes.now }
     requires small { length over.now.tables + 1 < 2 ^ 32 }
     requires below { AreBelow over.now sizes.now rows.now.entries }
-    ensures { Answers (within_limits sizes.now (rows_in rows.now.entries) over.now) result }
+    ensures exact { IfOk result (λ structure. within_limits sizes.now (rows_in rows.now.entries) over.now ≡ Ok structure) }
+    ensures over { IfOk result (IsFor over.now) }
+    ensures refused { IfErr result (Refuses (within_limits sizes.now (rows_in rows.now.entries) over.now)) }
 {
     let mut structure = blank(alloc, over, sizes)?;
     fill_all(alloc, over, sizes, &mut structure, rows)?;

@@ -1,6 +1,7 @@
 //! A whole file is read.
-ghost use Rattle.std.specs.Prelude.{◌≡◌, ◌+◌, ◌<◌, ◌^◌, ◌↔◌, [], length, None, IfErr, IfOk, IsTrue, OnOk};
+ghost use Rattle.std.specs.Prelude.{◌≡◌, ◌+◌, ◌<◌, ◌^◌, ◌↔◌, [], length, None, Ok, IfErr, IfOk, IsTrue, OnOk};
 ghost use Rattle.classical_signature_laws.specs.ClassicalSignatures.{HasSorts};
+ghost use Rattle.fin_struct.specs.StructureTables.{IsFor};
 ghost use Rattle.interpretation_definitions.specs.Context.{context_of};
 ghost use Rattle.interpretation_definitions.specs.Given.{given_by};
 ghost use Rattle.interpretation_definitions.specs.Interpretation as meant;
@@ -8,7 +9,7 @@ ghost use Rattle.interpretation_definitions.specs.Interpretation.{interpretation
 ghost use Rattle.interpretation_parts.specs.steps.After.{RefusesFault};
 ghost use Rattle.interpretation_parts.specs.steps.Held.{context_in, HasRows};
 ghost use Rattle.interpretation_parts.specs.steps.Items.{item_fault, items_in, parts_in_items};
-ghost use Rattle.interp_reader.specs.Refusals.{Answers};
+ghost use Rattle.interp_reader.specs.Refusals.{Refuses};
 
 use crate::fill::fill;
 use crate::own::own_rows;
@@ -86,7 +87,9 @@ fn rows_of(
 pub fn read(alloc: Global, over: &ClassicalSignature, file: &File) -> Result<Structure, InterpError>
     requires sorts { HasSorts over.now }
     requires statements { length file.now.statements < 2 ^ 31 }
-    ensures { Answers (interpretation_of over.now file.now) result }
+    ensures exact { IfOk result (λ structure. interpretation_of over.now file.now ≡ Ok structure) }
+    ensures over { IfOk result (IsFor over.now) }
+    ensures refused { IfErr result (Refuses (interpretation_of over.now file.now)) }
 {
     if !can_number(over) {
         return Err(InterpError::Memory);

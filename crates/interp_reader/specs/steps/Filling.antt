@@ -48,6 +48,10 @@ has_all entries k rows = list_all (λ row. is_some (row_value entries k row)) ro
 abbrev pub is_half_given : List (List ℕ × ℕ) → ℕ → List (List ℕ) → Bool
 is_half_given entries k rows = has_place entries k && not (has_all entries k rows)
 
+-- whether none of the rows is in the map, or all are
+abbrev pub are_settled : List (List ℕ × ℕ) → ℕ → List (List ℕ) → Bool
+are_settled entries k rows = not (is_half_given entries k rows)
+
 -- the numbers are those with which keys begin
 abbrev pub ArePlaces : List ℕ → List (List ℕ × ℕ) → Type 0
 ArePlaces places entries = (k : ℕ) → list_any (nat_eq k) places ≡ has_place entries k

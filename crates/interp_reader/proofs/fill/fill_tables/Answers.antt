@@ -21,7 +21,7 @@ returns-then-not-branch-clause-refused c =
     let same = c.as_slice-entry-items.ensures in
     let lt = subst (λ ts. n < length ts) same c.loop-at-test.true in
     let half = half_is over sizes entries n c.loop-at.structure d c.loop-at.invariant.filled lt
-        ∙ half_true (is_half_given entries (n + 1) (rows_at c.loop-at.structure n)) c.in_ok-fill_one.field-0 c.in_ok-fill_one.ensures.complete c.if-not-branch.true in
+    ∙ half_true (is_half_given entries (n + 1) (rows_at c.loop-at.structure n)) c.in_ok-fill_one.field-0 c.in_ok-fill_one.ensures.complete c.if-not-branch.true in
     let found = c.loop-at.invariant.complete ∙ complete_found sizes (rows_in entries) over.tables n d lt half in
     let name = c.bytes.ensures ∙ ap (λ (x : TableEntry). x.name) (c.entry-item.is ∙ ap (λ ts. get_or ts n d) same) in
     subst (λ o. RefusesSymbol o c.incomplete.result) (ap (λ text. Some text) name ∙ sym found) c.incomplete.ensures
@@ -36,7 +36,7 @@ loop-at-preserved c =
     let before = c.loop-at.structure in
     let lt = subst (λ ts. n < length ts) c.as_slice-entry-items.ensures c.loop-at-test.true in
     let half = half_is over sizes entries n before d c.loop-at.invariant.filled lt
-        ∙ half_false (is_half_given entries (n + 1) (rows_at before n)) c.in_ok-fill_one.field-0 c.in_ok-fill_one.ensures.complete c.if-not-branch.false in
+    ∙ half_false (is_half_given entries (n + 1) (rows_at before n)) c.in_ok-fill_one.field-0 c.in_ok-fill_one.ensures.complete c.if-not-branch.false in
     record {
       complete = c.loop-at.invariant.complete ∙ complete_next sizes (rows_in entries) over.tables n d lt half;
       filled = filled_next over sizes entries n before c.fill_one.new.structure c.loop-at.invariant.filled (c.in_ok-fill_one.ensures.filled c.if-not-branch.false);

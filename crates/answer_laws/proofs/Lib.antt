@@ -1,0 +1,5 @@
+pub mod Deciding
+pub mod DecidingTables
+pub mod SomeText
+pub mod OneReading
+pub mod OneCheck
