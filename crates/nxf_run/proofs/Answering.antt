@@ -1,50 +1,84 @@
 -- The words have exactly one answer, and a refusal in it is none of those that come from outside.
-use Rattle.std.proofs.Common.{◌≡◌, ℕ, List, Option, None, Some, Result, Ok, Err, refl, sym, ap, subst, ◌∙◌}
+use Rattle.std.proofs.Common.{◌≡◌, ◌≢◌, ℕ, leb, Bool, true, false, cond, length, List, Option, None, Some, Result, Ok, Err, refl, sym, ap, subst, ◌∙◌}
 use Rattle.nxf_base.specs.Exactly.{ExactlyOne}
-use Rattle.nxf_base.specs.Files.{Files}
+use Rattle.nxf_base.specs.Files.{Files, file_of}
 use Rattle.nxf_base.specs.declared.status.Status.{Status}
 use Rattle.nxf_base.specs.declared.status.Status.TheVariants as status
 use Rattle.nxf_tree.specs.declared.tree.File.{File}
+use Rattle.nxf_tree.specs.declared.tree.Signature.{Signature}
 use Rattle.nxf_tree.specs.Profile.{Reading, Refusal, RefusedRole, RefusedSpec, RefusedSort, reading_of}
+use Rattle.nxf_tree.specs.Structures.{KripkeStructure}
+use Rattle.fin_struct.specs.declared.condition.Condition.{Condition}
 use Rattle.syntax_definitions.specs.declared.gather_error.GatherError.{GatherError}
 use Rattle.syntax_definitions.specs.declared.gather_error.GatherError.TheVariants as gather
-use Rattle.syntax_definitions.specs.Gathered.{Gathers}
-use Rattle.syntax_definitions.specs.Refusals.{IsOfFiles}
+use Rattle.syntax_definitions.specs.Loading as loading
+use Rattle.syntax_definitions.specs.Refusals.{IsOfFiles, IsRefusalOfFiles}
 use Rattle.gathering_laws.proofs.ExactlyOne.{exactly_one}
 use Rattle.gathering_laws.proofs.OneGathering.{one_gathering}
 use Rattle.gathering_laws.proofs.SomeGathering.{some_gathering, gathering_of_files}
-use Rattle.nxf_run.specs.Forms.{Form, form_of, Embed, Later, NoForm}
-use Rattle.nxf_run.specs.Answer.{Answer, IsAnswer, Gathered, no_form, later, embeds, answer_to, answer_by, status_of_refusal}
+use Rattle.kripke_text_definitions.specs.declared.error.KripkeTextError.{KripkeTextError}
+use Rattle.kripke_text_definitions.specs.declared.error.KripkeTextError.TheVariants as text
+use Rattle.answer_definitions.specs.Answer.{Answer, status_of_gathering, status_of_refusal}
+use Rattle.answer_definitions.specs.Check.{Checks, ChecksBy, ChecksLoaded, IsVerdict, verdict}
+use Rattle.answer_definitions.specs.KripkeFile.{ReadsStructure, not_lexed, not_text, read, status_of_text}
+use Rattle.answer_laws.proofs.OneCheck.{some_check, one_check}
+use Rattle.nxf_run.specs.Forms.{Form, form_of, Embed, Check, Later, NoForm}
+use Rattle.nxf_run.specs.Answer.{IsAnswer, AnswersForm, AnswersEmbed, AnswersCheck, Gathered, Loaded, answer_to, answer_by}
 
-same_name : {a b : List ℕ} {form : Form} → form ≡ Embed a → form ≡ Embed b → a ≡ b
-same_name h k = let e = sym h ∙ k in cc
+-- ---- no two answers
+
+module _ (files : Files) where
+  one_of_embed : (name : List ℕ) (a b : Answer) → AnswersEmbed (Some files) name a → AnswersEmbed (Some files) name b → a ≡ b
+  one_of_embed name a b h k = h.answer_is ∙ ap answer_to (one_gathering files name h.outcome k.outcome h.gathered k.gathered) ∙ sym k.answer_is
+
+  one_of_check : (name second : List ℕ) (a b : Answer) → AnswersCheck (Some files) name second a → AnswersCheck (Some files) name second b → a ≡ b
+  one_of_check name second a b h k =
+      let of_outcome = subst (λ (o : Result File GatherError). Checks o second k.bytes b) (one_gathering files name k.outcome h.outcome k.gathered h.gathered) k.checks in
+      one_check h.outcome second h.bytes a b h.checks (subst (λ (bytes : Result (List ℕ) GatherError). Checks h.outcome second bytes b) (k.loaded ∙ sym h.loaded) of_outcome)
+
+  one_of_form : (form : Form) (a b : Answer) → AnswersForm (Some files) form a → AnswersForm (Some files) form b → a ≡ b
+  one_of_form (Embed name) a b h k = one_of_embed name a b h k
+  one_of_form (Check name second) a b h k = one_of_check name second a b h k
+  one_of_form Later a b h k = h ∙ sym k
+  one_of_form NoForm a b h k = h ∙ sym k
 
 pub one_answer : (files : Files) (words : List (List ℕ)) (a b : Answer) → IsAnswer (Some files) words a → IsAnswer (Some files) words b → a ≡ b
-one_answer files words a b (no_form h) (no_form k) = refl
-one_answer files words a b (no_form h) (later k) = absurd (let e = sym h ∙ k in cc)
-one_answer files words a b (no_form h) (embeds name outcome k g o) = absurd (let e = sym h ∙ k in cc)
-one_answer files words a b (later h) (no_form k) = absurd (let e = sym h ∙ k in cc)
-one_answer files words a b (later h) (later k) = refl
-one_answer files words a b (later h) (embeds name outcome k g o) = absurd (let e = sym h ∙ k in cc)
-one_answer files words a b (embeds name outcome k g o) (no_form h) = absurd (let e = sym h ∙ k in cc)
-one_answer files words a b (embeds name outcome k g o) (later h) = absurd (let e = sym h ∙ k in cc)
-one_answer files words a b (embeds name outcome k g o) (embeds other result h f p) =
-    ap answer_to (one_gathering files name outcome result g (subst (λ (n : List ℕ). Gathers files n result) (same_name h k) f))
+one_answer files words a b h k = one_of_form files (form_of words) a b h k
 
 -- ---- there is an answer
 
+within_of_files : (name bytes : List ℕ) (small : Bool) → IsOfFiles (cond small (Ok bytes) (Err (gather.TooLong name)))
+within_of_files name bytes true = tt
+within_of_files name bytes false = tt
+
+found_of_files : (name : List ℕ) (found : Option (List ℕ)) → IsOfFiles (loading.within name found)
+found_of_files name None = tt
+found_of_files name (Some bytes) = within_of_files name bytes (leb (length bytes) 16777216)
+
 -- a gathering by the files; where they aren't told, any result is one
-some_outcome : (told : Option Files) (name : List ℕ) → (outcome : Result File GatherError) × Gathered told name outcome × IsOfFiles outcome
+pub some_outcome : (told : Option Files) (name : List ℕ) → (outcome : Result File GatherError) × Gathered told name outcome × IsOfFiles outcome
 some_outcome None name = (Err gather.TooMuch, tt, tt)
 some_outcome (Some files) name = let g = some_gathering files name in (g.0, g.1, gathering_of_files files name g.0 g.1)
 
-answer_by_form : (told : Option Files) (words : List (List ℕ)) (form : Form) → form_of words ≡ form → (answer : Answer) × IsAnswer told words answer
-answer_by_form told words (Embed name) e = let o = some_outcome told name in (answer_to o.0, embeds name o.0 e o.1 o.2)
-answer_by_form told words Later e = (Err status.NotYet, later e)
-answer_by_form told words NoForm e = (Err status.Usage, no_form e)
+-- the same for a load
+pub some_loaded : (told : Option Files) (name : List ℕ) → (bytes : Result (List ℕ) GatherError) × Loaded told name bytes × IsOfFiles bytes
+some_loaded None name = (Err gather.TooMuch, tt, tt)
+some_loaded (Some files) name = (loading.loaded files name, refl, found_of_files name (file_of name files))
+
+answer_by_form : (told : Option Files) (form : Form) → (answer : Answer) × AnswersForm told form answer
+answer_by_form told (Embed name) =
+    let o = some_outcome told name in
+    (answer_to o.0, record { outcome = o.0; gathered = o.1; of_files = o.2; answer_is = refl })
+answer_by_form told (Check name second) =
+    let o = some_outcome told name in
+    let l = some_loaded told second in
+    let c = some_check o.0 second l.0 in
+    (c.0, record { outcome = o.0; gathered = o.1; of_files = o.2; bytes = l.0; loaded = l.1; loaded_of_files = l.2; checks = c.1 })
+answer_by_form told Later = (Err status.NotYet, refl)
+answer_by_form told NoForm = (Err status.Usage, refl)
 
 pub some_answer : (told : Option Files) (words : List (List ℕ)) → (answer : Answer) × IsAnswer told words answer
-some_answer told words = answer_by_form told words (form_of words) refl
+some_answer told words = answer_by_form told (form_of words)
 
 pub exactly_one_answer : (files : Files) (words : List (List ℕ)) → ExactlyOne (IsAnswer (Some files) words)
 exactly_one_answer files words = exactly_one (IsAnswer (Some files) words) (some_answer (Some files) words) (one_answer files words)
@@ -68,26 +102,67 @@ of_refusal (RefusedRole kind place) = tt
 of_refusal (RefusedSpec kind) = tt
 of_refusal (RefusedSort kind place name) = tt
 
+pub of_error : (e : GatherError) → IsRefusalOfFiles e → IsRefusal (status_of_gathering e)
+of_error (gather.NoFile name) o = tt
+of_error gather.ReadFault o = absurd o
+of_error (gather.TooLong name) o = tt
+of_error gather.TooMuch o = tt
+of_error (gather.Deep name) o = tt
+of_error (gather.Lex name offset) o = tt
+of_error (gather.Syntax name place) o = tt
+of_error (gather.NoSuchName file name) o = tt
+of_error gather.Memory o = absurd o
+
+of_text : (e : KripkeTextError) → e ≢ text.Memory → IsRefusal (status_of_text e)
+of_text (text.Form k) other = tt
+of_text (text.TooManyWorlds n) other = tt
+of_text (text.TooBig c) other = tt
+of_text text.Memory other = absurd (other refl)
+
+-- ---- the answer to `embed`
+
 of_profile : (file : File) (outcome : Result Reading Refusal) → IsKnown (answer_by file outcome)
 of_profile file (Ok problem) = tt
 of_profile file (Err refusal) = of_refusal refusal
 
-pub of_files : (outcome : Result File GatherError) → IsOfFiles outcome → IsKnown (answer_to outcome)
+of_files : (outcome : Result File GatherError) → IsOfFiles outcome → IsKnown (answer_to outcome)
 of_files (Ok file) o = of_profile file (reading_of file)
-of_files (Err (gather.NoFile name)) o = tt
-of_files (Err gather.ReadFault) o = absurd o
-of_files (Err (gather.TooLong name)) o = tt
-of_files (Err gather.TooMuch) o = tt
-of_files (Err (gather.Deep name)) o = tt
-of_files (Err (gather.Lex name offset)) o = tt
-of_files (Err (gather.Syntax name place)) o = tt
-of_files (Err (gather.NoSuchName file name)) o = tt
-of_files (Err gather.Memory) o = absurd o
+of_files (Err e) o = of_error e o
 
-known : {told : Option Files} {words : List (List ℕ)} {answer : Answer} → IsAnswer told words answer → IsKnown answer
-known (no_form h) = tt
-known (later h) = tt
-known (embeds name outcome h g o) = of_files outcome o
+-- ---- the answer to `check`
+
+same_known : {a b : Answer} → a ≡ b → IsKnown b → IsKnown a
+same_known e h = subst IsKnown (sym e) h
+
+of_fault : (sig : Signature) (fault : Option Condition) → IsKnown (verdict sig fault)
+of_fault sig None = tt
+of_fault sig (Some fault) = tt
+
+of_verdict : (sig : Signature) (file : File) {name bytes : List ℕ} {reading : Result KripkeStructure Status} (answer : Answer)
+    → ReadsStructure sig name bytes reading → IsVerdict sig file reading answer → IsKnown answer
+of_verdict sig file answer (not_lexed at bad) e = same_known e tt
+of_verdict sig file answer (not_text tokens error lexed h other) e = same_known e (of_text error other)
+of_verdict sig file answer (read K spells few) v = same_known v.2 (of_fault sig v.0)
+
+of_loaded : (sig : Signature) (file : File) (name : List ℕ) (loaded : Result (List ℕ) GatherError) (answer : Answer) → IsOfFiles loaded → ChecksLoaded sig file name loaded answer → IsKnown answer
+of_loaded sig file name (Err error) answer o e = same_known e (of_error error o)
+of_loaded sig file name (Ok bytes) answer o h = of_verdict sig file answer h.reads h.judged
+
+of_reading : (file : File) (outcome : Result Reading Refusal) (name : List ℕ) (loaded : Result (List ℕ) GatherError) (answer : Answer) → IsOfFiles loaded → ChecksBy file outcome name loaded answer → IsKnown answer
+of_reading file (Err refusal) name loaded answer o e = same_known e (of_refusal refusal)
+of_reading file (Ok problem) name loaded answer o h = of_loaded problem.signature file name loaded answer o h
+
+of_check : (outcome : Result File GatherError) (name : List ℕ) (loaded : Result (List ℕ) GatherError) (answer : Answer) → IsOfFiles outcome → IsOfFiles loaded → Checks outcome name loaded answer → IsKnown answer
+of_check (Err error) name loaded answer o l e = same_known e (of_error error o)
+of_check (Ok file) name loaded answer o l h = of_reading file (reading_of file) name loaded answer l h
+
+-- ---- the answer to the words
+
+known : (told : Option Files) (form : Form) (answer : Answer) → AnswersForm told form answer → IsKnown answer
+known told (Embed name) answer h = same_known h.answer_is (of_files h.outcome h.of_files)
+known told (Check name second) answer h = of_check h.outcome second h.bytes answer h.of_files h.loaded_of_files h.checks
+known told Later answer e = same_known e tt
+known told NoForm answer e = same_known e tt
 
 pub known_refusal : (told : Option Files) (words : List (List ℕ)) (s : Status) → IsAnswer told words (Err s) → IsRefusal s
-known_refusal told words s h = known h
+known_refusal told words s h = known told (form_of words) (Err s) h

@@ -9,11 +9,12 @@ use Rattle.nxf_base.specs.Shelf.{Shelf}
 use Rattle.nxf_base.specs.Write.{Appends}
 use Rattle.nxf_base.specs.declared.status.Status.{Status}
 use Rattle.nxf_base.specs.declared.status.Status.TheVariants as status
-use Rattle.nxf_include.specs.Roots.{files_of, KeepEach, SomeFaultRose, EachMissRose}
-use Rattle.nxf_run.specs.Answer.{Answer, IsAnswer}
+use Rattle.nxf_include.specs.Roots.{KeepEach}
+use Rattle.answer_definitions.specs.Answer.{Answer}
+use Rattle.nxf_run.specs.Answer.{IsAnswer}
 use Rattle.nxf_run.specs.Ending.{AppendsSome, AppendsSomeOf, GivesSome, GivesNothing, NamesFile, Follows, MayEnd, TellsSome, Tells, Reports, NothingFailed, Completes}
 use Rattle.nxf_run.specs.Run.{Run, files_told}
-use Rattle.nxf_run.specs.steps.Preparing.{Refuses}
+use Rattle.nxf_run.specs.steps.Preparing.{Refuses, IsOfLoading, HasLoadCause}
 use Rattle.nxf_run.proofs.Answering.{IsRefusal, one_answer, some_answer, known_refusal}
 use Rattle.nxf_run.proofs.Appending.{appends_none}
 
@@ -100,15 +101,13 @@ module _ (run : Run) where
 
 module _ (run : Run) where
   -- a refusal: nothing was written
-  pub refused_ends : (s : Status) → Refuses (files_told run) run.words s
-      → ((name : List ℕ) → s ≡ status.NoFile name → NamesFile run.words × EachMissRose run.shelves run.shelves_now)
-      → (s ≡ status.ReadFault → NamesFile run.words × SomeFaultRose run.shelves run.shelves_now)
+  pub refused_ends : (s : Status) → Refuses (files_told run) run.words s → (IsOfLoading s → NamesFile run.words) → HasLoadCause run.shelves run.shelves_now s
       → KeepEach run.shelves run.shelves_now → run.out_now ≡ run.out → MayEnd run s
-  refused_ends s refused no_file read_fault keeps same = record {
+  refused_ends s refused named cause keeps same = record {
     answers = refusal_follows run s refused (ap (λ x. x.held) same);
     causes = record {
-      no_file = no_file;
-      read_fault = read_fault;
+      no_file = λ name e. (named (subst IsOfLoading (sym e) tt), subst (HasLoadCause run.shelves run.shelves_now) e cause);
+      read_fault = λ e. (named (subst IsOfLoading (sym e) tt), subst (HasLoadCause run.shelves run.shelves_now) e cause);
       write_fault = λ e. absurd (never_write_fault (files_told run) run.words s refused e);
       keeps = keeps;
       later = omega (arith, ap (λ x. x.faults) same);

@@ -6,10 +6,11 @@ use Rattle.nxf_base.specs.Message.{message_of}
 use Rattle.nxf_base.specs.Write.{Appends}
 use Rattle.nxf_base.specs.declared.status.Status.{Status}
 use Rattle.nxf_base.specs.declared.status.Status.TheVariants as status
-use Rattle.nxf_tree.specs.declared.tree.File.{File}
 use Rattle.nxf_include.specs.Roots.{KeepEach, SomeFaultRose, EachMissRose}
-use Rattle.nxf_run.specs.Forms.{form_of, Embed}
-use Rattle.nxf_run.specs.Answer.{Answer, IsAnswer, Gathered, IsTranslation}
+use Rattle.answer_definitions.specs.Answer.{Answer}
+use Rattle.nxf_run.specs.Forms.{Form, form_of, Embed, Check, Later, NoForm}
+use Rattle.nxf_run.specs.Answer.{IsAnswer}
+use Rattle.nxf_run.specs.Meaning.{TextMeans}
 use Rattle.nxf_run.specs.Run.{Run, files_told}
 
 -- ---- bytes in a sink
@@ -53,9 +54,15 @@ Follows run status.Memory = (answer : Answer) × Answers run answer × AppendsSo
 Follows run status.ReadFault = GivesNothing run
 Follows run refusal = Answers run (Err refusal) × GivesNothing run
 
--- the words name a file to be embedded
+-- the words are of a form whose files are loaded
+abbrev pub LoadsFiles : Form → Type 0
+LoadsFiles (Embed name) = Unit {0}
+LoadsFiles (Check name second) = Unit {0}
+LoadsFiles Later = ⊥
+LoadsFiles NoForm = ⊥
+
 abbrev pub NamesFile : List (List ℕ) → Type 0
-NamesFile words = (name : List ℕ) × (form_of words ≡ Embed name)
+NamesFile words = LoadsFiles (form_of words)
 
 -- A status that came from outside has its cause there. The libraries tell what they told, and no count falls.
 pub record HasCause (run : Run) (s : Status) : Type 0 where
@@ -93,18 +100,15 @@ pub record NothingFailed (run : Run) : Type 0 where
 -- Where the files are told, the answer is a text and nothing failed, the text is given, or there was no memory.
 abbrev pub Completes : Run → Status → Type 0
 Completes run s =
-    (files : Files) (text : List ℕ) → files_told run ≡ Some files → Answers run (Ok text) → NothingFailed run → (s ≡ status.Ok) ⊎ (s ≡ status.Memory)
+    (files : Files) (text : List ℕ) → files_told run ≡ Some files → Answers run (Ok text) → NothingFailed run
+    → (s ≡ status.Ok) ⊎ (s ≡ status.Memory)
 
--- `out` got the translation of the file that the words name, with all that it includes
-pub record GivesTranslation (run : Run) : Type 0 where
-  pub name : List ℕ
-  pub asked : form_of run.words ≡ Embed name
-  pub file : File
-  pub gathered : Gathered (files_told run) name (Ok file)
+-- `out` got a text, and it means what the words ask
+pub record GivesMeaning (run : Run) : Type 0 where
   pub text : List ℕ
-  pub translation : IsTranslation file text
+  pub means : TextMeans (files_told run) (form_of run.words) text
   pub writes : Gives run text
 
--- On Ok, what `out` got means what the file means.
+-- On Ok, what `out` got means what the files mean.
 abbrev pub Means : Run → Status → Type 0
-Means run s = s ≡ status.Ok → GivesTranslation run
+Means run s = s ≡ status.Ok → GivesMeaning run

@@ -1,5 +1,5 @@
 -- The forms of words: which commands there are, and what they name.
-use Rattle.std.specs.Prelude.{ℕ, Bool, true, false, ◌&&◌, ◌||◌, not, nat_eq, if◌then◌else◌, List, [], ◌∷◌, codes, decimal, Option, Some, None}
+use Rattle.std.specs.Prelude.{ℕ, Bool, true, false, ◌&&◌, ◌||◌, not, nat_eq, if◌then◌else◌, List, [], ◌∷◌, codes, decimal}
 use Rattle.std.specs.List.{list_any, range_with_len}
 use Rattle.nxf_tree.specs.Names.{same_text}
 
@@ -7,6 +7,8 @@ use Rattle.nxf_tree.specs.Names.{same_text}
 pub data Form : Type 0 where
   -- the classical problem of the file
   Embed : (file : List ℕ) → Form
+  -- whether the structure of a Kripke text is a countermodel of the file
+  Check : (file kripke : List ℕ) → Form
   -- one of the other commands, which are not answered yet
   Later : Form
   -- nothing that has an answer
@@ -24,18 +26,19 @@ is_file (b ∷ bs) = not (nat_eq b 45) || same_text stdin (b ∷ bs)
 unfoldable pub is_number : List ℕ → Bool
 is_number word = list_any (λ n. same_text (decimal n) word) (range_with_len 1 200)
 
--- the commands that take two files
-abbrev pub takes_two_files : List ℕ → Bool
-takes_two_files command = same_text (codes "lift") command || same_text (codes "lower") command || same_text (codes "check") command
-
 abbrev pub with_one_word : List ℕ → List ℕ → Form
 with_one_word command word =
     if same_text (codes "embed") command && is_file word then Embed word
     else (if same_text (codes "gen") command && is_number word then Later else NoForm)
 
+-- the form of a command with two files
+abbrev pub with_two_files : List ℕ → List ℕ → List ℕ → Form
+with_two_files command file other =
+    if same_text (codes "check") command then Check file other
+    else (if same_text (codes "lift") command || same_text (codes "lower") command then Later else NoForm)
+
 abbrev pub with_two_words : List ℕ → List ℕ → List ℕ → Form
-with_two_words command file other =
-    if takes_two_files command && is_file file && is_file other then Later else NoForm
+with_two_words command file other = if is_file file && is_file other then with_two_files command file other else NoForm
 
 -- the form of a list of words: `embed FILE`, `lift FILE INTERP`, `lower FILE KRIPKE`, `check FILE KRIPKE`, `gen NUMBER`, or none
 abbrev pub form_of : List (List ℕ) → Form
@@ -44,15 +47,3 @@ form_of (a ∷ []) = NoForm
 form_of (a ∷ b ∷ []) = with_one_word a b
 form_of (a ∷ b ∷ c ∷ []) = with_two_words a b c
 form_of (a ∷ b ∷ c ∷ d ∷ rest) = NoForm
-
--- the file of `embed FILE`
-abbrev pub file_to_embed : Form → Option (List ℕ)
-file_to_embed (Embed file) = Some file
-file_to_embed Later = None
-file_to_embed NoForm = None
-
--- whether the form has no answer yet
-abbrev pub is_later : Form → Bool
-is_later (Embed file) = false
-is_later Later = true
-is_later NoForm = false

@@ -31,7 +31,8 @@ pub fn write_all<S: Sink>(sink: &mut S, bytes: &[u8]) -> Result<(), SinkError>
 pub fn report<E: Sink>(alloc: Global, status: Status, err: &mut E) -> Status
     ensures same { result ≡ status ⊎ result ≡ Status.Memory }
     ensures some { AppendsSome (E.held err.old) (E.held err.new) (message_of status) }
-    ensures all { result ≡ status → Appends (E.held err.old) (E.held err.new) (message_of status) ⊎ (status ≡ Status.Memory) ⊎ Rose (E.faults err.old) (E.faults err.new) }
+    ensures all { let whole = Appends (E.held err.old) (E.held err.new) (message_of status) in
+        result ≡ status → whole ⊎ (status ≡ Status.Memory) ⊎ Rose (E.faults err.old) (E.faults err.new) }
 {
     let Ok(line) = message(alloc, &status) else {
         return Status::Memory;

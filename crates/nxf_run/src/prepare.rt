@@ -1,21 +1,23 @@
 //! What is to be written, before a byte of it is.
-ghost use Rattle.std.specs.Prelude.{◌≡◌, ◌⊎◌, IsTrue, IfOk, IfErr, Err, MatchResult, map};
+ghost use Rattle.std.specs.Prelude.{◌≡◌, IsTrue, IfOk, IfErr, MatchResult, map};
 ghost use Rattle.nxf_tree.specs.Text.{text_of, is_printable};
-ghost use Rattle.nxf_include.specs.Roots.{files_of, KeepEach, SomeFaultRose, EachMissRose};
+ghost use Rattle.nxf_include.specs.Roots.{files_of, KeepEach};
 ghost use Rattle.syntax_definitions.specs.Promises.{IsFine};
-ghost use Rattle.nxf_run.specs.Answer as answer;
-ghost use Rattle.nxf_run.specs.Answer.{IsTranslation};
+ghost use Rattle.answer_definitions.specs.Answer as answer;
+ghost use Rattle.answer_definitions.specs.Answer.{OrMemory};
+ghost use Rattle.answer_definitions.specs.ProblemFile.{IsProfileRefusal};
 ghost use Rattle.nxf_run.specs.Ending.{NamesFile};
-ghost use Rattle.nxf_run.specs.steps.Preparing.{Translates, FileTranslates, NameRefuses, FileRefuses, Refuses, IsReading};
+ghost use Rattle.nxf_run.specs.Forms.{form_of};
+ghost use Rattle.nxf_run.specs.Meaning.{IsTranslation, EmbedMeans, CheckMeans, TextMeans};
+ghost use Rattle.nxf_run.specs.steps.Preparing.{EmbedRefuses, CheckRefuses, Refuses, IsOfLoading, HasLoadCause};
 
-use crate::words::{file_to_embed, is_later};
-use logic_spec::{SpecError, read_spec};
+use crate::words::{Command, command_of};
+use check_answer::check_text;
 use nxf_base::{Library, Memory, Status, Text};
 use nxf_embed::embed;
-use nxf_include::{GatherError, gather_from};
-use nxf_roles::{Parts, RoleError, sort_roles};
-use nxf_sorts::{Checked, SortError, check};
+use nxf_include::{GatherError, gather_from, load_one_from};
 use nxf_tree::File;
+use problem_reader::read_problem;
 use std::alloc::Global;
 use tf0_printer::print_file;
 
@@ -25,16 +27,17 @@ pub fn prepare<L: Library>(
     words: &[Text],
     libraries: &mut [L],
 ) -> Result<Vec<u8>, Status>
-    ensures text { IfOk result (λ text. Translates (files_of (map L.shelf libraries.old)) words.now text.items) }
-    ensures refused { IfErr result (λ s. Refuses (files_of (map L.shelf libraries.old)) words.now s) }
-    ensures no_file { (name : _) → result ≡ Err (Status.NoFile name) → NamesFile words.now × EachMissRose (map L.shelf libraries.old) (map L.shelf libraries.new) }
-    ensures read_fault { result ≡ Err Status.ReadFault → NamesFile words.now × SomeFaultRose (map L.shelf libraries.old) (map L.shelf libraries.new) }
+    ensures text { let told = files_of (map L.shelf libraries.old) in IfOk result (λ text. TextMeans told (form_of words.now) text.items) }
+    ensures refused { let told = files_of (map L.shelf libraries.old) in IfErr result (Refuses told words.now) }
+    ensures named { IfErr result (λ s. IsOfLoading s → NamesFile words.now) }
+    ensures causes { IfErr result (HasLoadCause (map L.shelf libraries.old) (map L.shelf libraries.new)) }
     ensures keeps { KeepEach (map L.shelf libraries.old) (map L.shelf libraries.new) }
 {
-    match file_to_embed(words) {
-        Some(name) => embed_file(alloc, libraries, name),
-        None if is_later(words) => Err(Status::NotYet),
-        None => Err(Status::Usage),
+    match command_of(words) {
+        Command::Embed(name) => embed_file(alloc, libraries, name),
+        Command::Check(name, second) => check_files(alloc, libraries, name, second),
+        Command::Later => Err(Status::NotYet),
+        Command::Unknown => Err(Status::Usage),
     }
 }
 
@@ -44,9 +47,9 @@ fn embed_file<L: Library>(
     libraries: &mut [L],
     name: &Text,
 ) -> Result<Vec<u8>, Status>
-    ensures answers { MatchResult result (λ text. FileTranslates (files_of (map L.shelf libraries.old)) name.now text.items) (NameRefuses (files_of (map L.shelf libraries.old)) name.now) }
-    ensures no_file { (missing : _) → result ≡ Err (Status.NoFile missing) → EachMissRose (map L.shelf libraries.old) (map L.shelf libraries.new) }
-    ensures read_fault { result ≡ Err Status.ReadFault → SomeFaultRose (map L.shelf libraries.old) (map L.shelf libraries.new) }
+    ensures text { let told = files_of (map L.shelf libraries.old) in IfOk result (λ text. EmbedMeans told name.now text.items) }
+    ensures refused { let told = files_of (map L.shelf libraries.old) in IfErr result (EmbedRefuses told name.now) }
+    ensures causes { IfErr result (HasLoadCause (map L.shelf libraries.old) (map L.shelf libraries.new)) }
     ensures keeps { KeepEach (map L.shelf libraries.old) (map L.shelf libraries.new) }
 {
     match gather_from(alloc, libraries, name) {
@@ -55,7 +58,7 @@ fn embed_file<L: Library>(
     }
 }
 
-/// The status of a file that is refused as it is gathered.
+/// The status of a file that is refused as it is loaded or gathered.
 fn status_of_gathering(error: GatherError) -> Status
     ensures { result ≡ answer.status_of_gathering error }
 {
@@ -75,9 +78,9 @@ fn status_of_gathering(error: GatherError) -> Status
 /// The translation of a gathered file.
 fn translate(alloc: Global, file: File) -> Result<Vec<u8>, Status>
     requires { IsFine file }
-    ensures { MatchResult result (λ text. IsTranslation file text.items) (FileRefuses file) }
+    ensures { MatchResult result (λ text. IsTranslation file text.items) (OrMemory (IsProfileRefusal file)) }
 {
-    let (parts, checked) = match read(alloc, &file) {
+    let (parts, checked) = match read_problem(alloc, &file) {
         Ok(reading) => reading,
         Err(status) => return Err(status),
     };
@@ -88,28 +91,6 @@ fn translate(alloc: Global, file: File) -> Result<Vec<u8>, Status>
     }
 }
 
-/// What the file is read as, where it is in the profile.
-fn read(alloc: Global, file: &File) -> Result<(Parts, Checked), Status>
-    requires { IsFine file.now }
-    ensures { MatchResult result (λ reading. IsReading file.now reading.0 reading.1) (FileRefuses file.now) }
-{
-    let parts = match sort_roles(alloc, file) {
-        Ok(parts) => parts,
-        Err(RoleError::Kind(kind, place)) => return Err(Status::Role(kind, place)),
-        Err(RoleError::Memory) => return Err(Status::Memory),
-    };
-    let spec = match read_spec(alloc, file) {
-        Ok(spec) => spec,
-        Err(SpecError::Kind(kind)) => return Err(Status::Spec(kind)),
-        Err(SpecError::Memory) => return Err(Status::Memory),
-    };
-    match check(alloc, file, &spec) {
-        Ok(checked) => Ok((parts, checked)),
-        Err(SortError::Kind(kind, place, name)) => Err(Status::Sort(kind, place, name)),
-        Err(SortError::Memory) => Err(Status::Memory),
-    }
-}
-
 fn print(alloc: Global, problem: &File) -> Result<Vec<u8>, Status>
     requires printable { IsTrue (is_printable problem.now) }
     ensures { MatchResult result (λ text. text.items ≡ text_of problem.now) (λ s. s ≡ Status.Memory) }
@@ -117,5 +98,33 @@ fn print(alloc: Global, problem: &File) -> Result<Vec<u8>, Status>
     match print_file(alloc, problem) {
         Ok(text) => Ok(text),
         Err(Memory) => Err(Status::Memory),
+    }
+}
+
+/// The line `countermodel`, where the Kripke text of the second file is that of a countermodel of the file of this name with all
+/// that it includes. The second file is loaded once the first is read.
+fn check_files<L: Library>(
+    alloc: Global,
+    libraries: &mut [L],
+    name: &Text,
+    second: &Text,
+) -> Result<Vec<u8>, Status>
+    ensures text { let told = files_of (map L.shelf libraries.old) in IfOk result (λ line. CheckMeans told name.now second.now line.items) }
+    ensures refused { let told = files_of (map L.shelf libraries.old) in IfErr result (CheckRefuses told name.now second.now) }
+    ensures causes { IfErr result (HasLoadCause (map L.shelf libraries.old) (map L.shelf libraries.new)) }
+    ensures keeps { KeepEach (map L.shelf libraries.old) (map L.shelf libraries.new) }
+{
+    let file = match gather_from(alloc, libraries, name) {
+        Ok(file) => file,
+        Err(error) => return Err(status_of_gathering(error)),
+    };
+    let (parts, checked) = match read_problem(alloc, &file) {
+        Ok(reading) => reading,
+        Err(status) => return Err(status),
+    };
+    drop(file);
+    match load_one_from(alloc, libraries, second) {
+        Ok(bytes) => check_text(alloc, &checked, &parts, second, &bytes),
+        Err(error) => Err(status_of_gathering(error)),
     }
 }

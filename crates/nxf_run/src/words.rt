@@ -1,7 +1,7 @@
 //! The forms of words.
-ghost use Rattle.std.specs.Prelude.{◌≡◌, None};
-ghost use Rattle.std.specs.Option.{option_copied};
+ghost use Rattle.std.specs.Prelude.{◌≡◌};
 ghost use Rattle.nxf_tree.specs.Names.{same_text};
+ghost use Rattle.nxf_run.specs.Commands.{form_read};
 ghost use Rattle.nxf_run.specs.Forms as forms;
 
 use itoa::Buffer;
@@ -10,30 +10,55 @@ use nxf_base::Text;
 /// The greatest number that `gen` takes.
 const GREATEST_NUMBER: u64 = 200;
 
-/// The file of the words `embed FILE`; all other words have none.
-pub fn file_to_embed(words: &[Text]) -> Option<&Text>
-    ensures { option_copied result ≡ forms.file_to_embed (forms.form_of words.now) }
+/// What the words ask.
+#[derive(Clone, Copy)]
+pub enum Command<'a> {
+    /// The classical problem of the file.
+    Embed(&'a Text),
+    /// Whether the structure of the second file, which is a Kripke text, is a countermodel of the first.
+    Check(&'a Text, &'a Text),
+    /// A command that has no answer yet.
+    Later,
+    /// Nothing that has an answer.
+    Unknown,
+}
+
+/// What the words ask.
+pub fn command_of(words: &[Text]) -> Command<'_>
+    ensures { form_read result ≡ forms.form_of words.now }
 {
-    if words.len() != 2 {
-        return None;
-    }
-    let (command, file) = (&words[0], &words[1]);
-    if is_word(command, b"embed") && is_file(file) {
-        Some(file)
-    } else {
-        None
+    match words {
+        [command, word] => with_one_word(command, word),
+        [command, file, other] => with_two_words(command, file, other),
+        _ => Command::Unknown,
     }
 }
 
-/// Whether words that are not `embed FILE` are one of the other commands, which have no answer yet.
-pub fn is_later(words: &[Text]) -> bool
-    requires { forms.file_to_embed (forms.form_of words.now) ≡ None }
-    ensures { result ≡ forms.is_later (forms.form_of words.now) }
+/// What a command and a word ask.
+fn with_one_word<'a>(command: &Text, word: &'a Text) -> Command<'a>
+    ensures { form_read result ≡ forms.with_one_word command.now word.now }
 {
-    match words.len() {
-        2 => is_word(&words[0], b"gen") && is_number(&words[1]),
-        3 => takes_two_files(&words[0]) && is_file(&words[1]) && is_file(&words[2]),
-        _ => false,
+    if is_word(command, b"embed") && is_file(word) {
+        Command::Embed(word)
+    } else if is_word(command, b"gen") && is_number(word) {
+        Command::Later
+    } else {
+        Command::Unknown
+    }
+}
+
+/// What a command and two words ask.
+fn with_two_words<'a>(command: &Text, file: &'a Text, other: &'a Text) -> Command<'a>
+    ensures { form_read result ≡ forms.with_two_words command.now file.now other.now }
+{
+    if !is_file(file) || !is_file(other) {
+        Command::Unknown
+    } else if is_word(command, b"check") {
+        Command::Check(file, other)
+    } else if is_word(command, b"lift") || is_word(command, b"lower") {
+        Command::Later
+    } else {
+        Command::Unknown
     }
 }
 
@@ -51,13 +76,6 @@ fn is_file(word: &Text) -> bool
         [] => false,
         [first, ..] => *first != b'-' || is_word(word, b"-"),
     }
-}
-
-/// Whether the command takes two files.
-fn takes_two_files(command: &Text) -> bool
-    ensures { result ≡ forms.takes_two_files command.now }
-{
-    is_word(command, b"lift") || is_word(command, b"lower") || is_word(command, b"check")
 }
 
 /// Whether the word is the numeral of a number that `gen` takes.

@@ -1,4 +1,5 @@
-use Rattle.std.proofs.Common.{◌≢◌, Err, refl, ap}
+use Rattle.std.proofs.Common.{◌≢◌, Err, refl, ap, map}
+use Rattle.nxf_include.specs.Roots.{files_of}
 use Rattle.nxf_base.specs.declared.status.Status.TheVariants as status
 use Rattle.nxf_run.specs.Ending.{MayEnd}
 use Rattle.nxf_run.specs.Run.{Run, ran, files_told}
@@ -12,7 +13,14 @@ use Rattle.nxf_run.proofs.top_call.run_over.Goals as goal
 pub returns-in-Ok-write_all-clause-answers : goal.returns-in-Ok-write_all-clause-answers
 returns-in-Ok-write_all-clause-answers g c =
     let prepared = rw c.as_slice.ensures at c.in-Ok.ensures.text in
-    (c.in-Ok.text.items, is_answer _ _ _ prepared, rw c.deref.ensures.value at c.in-Ok-write_all.ensures.ok)
+    (c.in-Ok.text.items, is_answer (files_of (map g.L.Library.shelf c.args.libraries.now)) c.args.words.now c.in-Ok.text.items prepared, rw c.deref.ensures.value at c.in-Ok-write_all.ensures.ok)
+
+pub returns-in-Ok-write_all-clause-means : goal.returns-in-Ok-write_all-clause-means
+returns-in-Ok-write_all-clause-means g c e = record {
+  text = c.in-Ok.text.items;
+  means = rw c.as_slice.ensures at c.in-Ok.ensures.text;
+  writes = rw c.deref.ensures.value at c.in-Ok-write_all.ensures.ok;
+}
 
 -- ---- a write failed
 
@@ -22,7 +30,7 @@ fault_run g c = ran c.args.words.now g.L.Library.shelf c.args.libraries.now c.pr
 may_fault : (g : _) (c : goal.After-drop-text-in-Err-Fault g) → MayEnd (fault_run g c) status.WriteFault
 may_fault g c =
     let prepared = rw c.as_slice.ensures at c.in-Ok.ensures.text in
-    write_fault_ends (fault_run g c) c.in-Ok.text.items (is_answer _ _ _ prepared) (rw c.deref.ensures.value at c.in-Err-Fault.ensures.err) c.in-Ok.ensures.keeps c.in-Err-Fault.ensures.later (c.in-Err-Fault.ensures.fault (ap Err c.in-Err-Fault.field-0-is))
+    write_fault_ends (fault_run g c) c.in-Ok.text.items (is_answer (files_of (map g.L.Library.shelf c.args.libraries.now)) c.args.words.now c.in-Ok.text.items prepared) (rw c.deref.ensures.value at c.in-Err-Fault.ensures.err) c.in-Ok.ensures.keeps c.in-Err-Fault.ensures.later (c.in-Err-Fault.ensures.fault (ap Err c.in-Err-Fault.field-0-is))
 
 ends_in_fault : (g : _) (c : goal.After-drop-text-in-Err-Fault g) → MayEnd (fault_run g c) c.report.result
 ends_in_fault g c = ends (fault_run g c) status.WriteFault c.report.result (λ e. cc) (may_fault g c) c.report.ensures.same
@@ -44,7 +52,7 @@ memory_run g c = ran c.args.words.now g.L.Library.shelf c.args.libraries.now c.p
 may_memory : (g : _) (c : goal.After-drop-text-in-Ok g) → MayEnd (memory_run g c) status.Memory
 may_memory g c =
     let prepared = rw c.as_slice.ensures at c.in-Ok.ensures.text in
-    no_memory_ends (memory_run g c) c.in-Ok.text.items (is_answer _ _ _ prepared) (rw c.deref.ensures.value at c.in-Err-Memory.ensures.err) c.in-Ok.ensures.keeps c.in-Err-Memory.ensures.later
+    no_memory_ends (memory_run g c) c.in-Ok.text.items (is_answer (files_of (map g.L.Library.shelf c.args.libraries.now)) c.args.words.now c.in-Ok.text.items prepared) (rw c.deref.ensures.value at c.in-Err-Memory.ensures.err) c.in-Ok.ensures.keeps c.in-Err-Memory.ensures.later
 
 ends_in_memory : (g : _) (c : goal.After-drop-text-in-Ok g) → MayEnd (memory_run g c) c.report-in-Err-Memory.result
 ends_in_memory g c = ends (memory_run g c) status.Memory c.report-in-Err-Memory.result (λ e. cc) (may_memory g c) c.report-in-Err-Memory.ensures.same
@@ -72,7 +80,7 @@ told_other g c = not_ok (files_told (refusal_run g c)) c.args.words.now c.in-Err
 
 may_refuse : (g : _) (c : goal.After-report-in-Err g) → MayEnd (refusal_run g c) c.in-Err.status
 may_refuse g c =
-    refused_ends (refusal_run g c) c.in-Err.status (refused g c) (λ name e. rw c.as_slice.ensures at c.in-Err.ensures.no_file name (ap Err e)) (λ e. rw c.as_slice.ensures at c.in-Err.ensures.read_fault (ap Err e)) c.in-Err.ensures.keeps refl
+    refused_ends (refusal_run g c) c.in-Err.status (refused g c) (rw c.as_slice.ensures at c.in-Err.ensures.named) c.in-Err.ensures.causes c.in-Err.ensures.keeps refl
 
 may_end : (g : _) (c : goal.After-report-in-Err g) → MayEnd (refusal_run g c) c.report-in-Err.result
 may_end g c = ends (refusal_run g c) c.in-Err.status c.report-in-Err.result (told_other g c) (may_refuse g c) c.report-in-Err.ensures.same
