@@ -33,9 +33,10 @@ use Rattle.numbered_definitions.specs.declared.node.NTerm.{NTerm}
 use Rattle.numbered_definitions.specs.declared.node.Node.{Node, Row_of-Node, end_of-Node, more_of-Node}
 use Rattle.numbered_definitions.specs.declared.node.Node as node
 use Rattle.numbered_definitions.specs.declared.node.Node.TheBlock.{hidden-the_row-Node-1, items-the_row-Node, items_hidden-the_row-Node-1}
-use Rattle.numbered_definitions.specs.NamedForm.{NodeNot, NodePair, NodeQuant, NodeModal, both, sort_name, index_name, named_form, named_nodes, named_forms}
+use Rattle.numbered_definitions.specs.NamedForm.{NodeNot, NodePair, NodeQuant, NodeModal, both, index_name, named_form, named_nodes, named_forms}
 use Rattle.nxf_sorts.specs.steps.Scope.{Scope, variables, bound_in}
 use Rattle.nxf_sorts.specs.steps.Numbering.{IsFault, Uses, NumbersTerms, NumbersSides, NumbersFormula, NumbersFormulas, formulas_faults, KnowsIndexes, KnowsAllIndexes, FindsNumber}
+use Rattle.nxf_sorts.proofs.TermLemmas.{none_push, both_push}
 use Rattle.nxf_sorts.proofs.UseLemmas.{fault_first, fault_then, fault_is}
 
 -- the numbers of sorts and indexes
@@ -217,14 +218,5 @@ module _ (sig : Signature) (us : List Use) (bs : Scope) where
 
 -- one more formula of a list
 pub forms_push : (sig : Signature) (xs : List (List ℕ)) (ns : List Node) (fs : List Formula) (n : Node) (f : Formula) → named_forms sig xs ns ≡ Some fs → named_form sig xs n ≡ Some f → named_forms sig xs (ns ++ n ∷ []) ≡ Some (fs ++ f ∷ [])
-forms_push sig xs [] fs n f h k =
-    let is : ◌≡◌ {A = List Formula} [] fs = cc in
-    ap (λ o. both (λ u us. u ∷ us) o (Some [])) k ∙ ap (λ us. Some (us ++ f ∷ [])) is
-forms_push sig xs (m ∷ ns) fs n f h k = by (named_form sig xs m) (named_forms sig xs ns) (named_forms sig xs (ns ++ n ∷ [])) (λ us e. forms_push sig xs ns us n f e k) h
-  where
-    by : (o : Option Formula) (p q : Option (List Formula)) → ((us : List Formula) → p ≡ Some us → q ≡ Some (us ++ f ∷ [])) → both (λ u us. u ∷ us) o p ≡ Some fs → both (λ u us. u ∷ us) o q ≡ Some (fs ++ f ∷ [])
-    by None p q next e = absurd cc
-    by (Some u) None q next e = absurd cc
-    by (Some u) (Some us) q next e =
-        let is : ◌≡◌ {A = List Formula} (u ∷ us) fs = cc in
-        ap (both (λ v vs. v ∷ vs) (Some u)) (next us refl) ∙ ap (λ vs. Some (vs ++ f ∷ [])) is
+forms_push sig xs [] fs n f h k = none_push f fs (named_form sig xs n) h k
+forms_push sig xs (m ∷ ns) fs n f h k = both_push f fs (named_form sig xs m) (named_forms sig xs ns) (named_forms sig xs (ns ++ n ∷ [])) (λ us e. forms_push sig xs ns us n f e k) h

@@ -161,19 +161,22 @@ rows_named sig xs (more_of-NTerm n ns) = ap (both (λ t ts. t ∷ ts) (named_ter
 pub named_App : (sig : Signature) (xs : List (List ℕ)) (k : ℕ) (ns : List NTerm) → named_term sig xs (numbered.App k ns) ≡ both App (symbol_name sig k) (named_terms sig xs ns)
 named_App sig xs k ns = ap (both App (symbol_name sig k)) (rows_named sig xs (hidden-the_row-NTerm-0 ns) ∙ ap (named_terms sig xs) (items_hidden-the_row-NTerm-0 ns))
 
+some_is : {X : Type 0} {a b : X} → ◌≡◌ {A = Option X} (Some a) (Some b) → a ≡ b
+some_is h = cc
+
+-- one more behind all that are there
+pub none_push : {X : Type 0} (t : X) (ts : List X) (o : Option X) → ◌≡◌ {A = Option (List X)} (Some []) (Some ts) → o ≡ Some t → both (λ u us. u ∷ us) o (Some []) ≡ Some (ts ++ t ∷ [])
+none_push t ts o h k = ap (λ p. both (λ u us. u ∷ us) p (Some [])) k ∙ ap (λ us. Some (us ++ t ∷ [])) (some_is h)
+
+pub both_push : {X : Type 0} (t : X) (ts : List X) (o : Option X) (p q : Option (List X)) → ((us : List X) → p ≡ Some us → q ≡ Some (us ++ t ∷ [])) → both (λ u us. u ∷ us) o p ≡ Some ts → both (λ u us. u ∷ us) o q ≡ Some (ts ++ t ∷ [])
+both_push t ts None p q next e = absurd cc
+both_push t ts (Some u) None q next e = absurd cc
+both_push t ts (Some u) (Some us) q next e = ap (both (λ v vs. v ∷ vs) (Some u)) (next us refl) ∙ ap (λ vs. Some (vs ++ t ∷ [])) (some_is e)
+
 -- one more argument
 pub named_push : (sig : Signature) (xs : List (List ℕ)) (ns : List NTerm) (ts : List Term) (n : NTerm) (t : Term) → named_terms sig xs ns ≡ Some ts → named_term sig xs n ≡ Some t → named_terms sig xs (ns ++ n ∷ []) ≡ Some (ts ++ t ∷ [])
-named_push sig xs [] ts n t h k =
-    let is : ◌≡◌ {A = List Term} [] ts = cc in
-    ap (λ o. both (λ u us. u ∷ us) o (Some [])) k ∙ ap (λ us. Some (us ++ t ∷ [])) is
-named_push sig xs (m ∷ ns) ts n t h k = by (named_term sig xs m) (named_terms sig xs ns) (named_terms sig xs (ns ++ n ∷ [])) (λ us e. named_push sig xs ns us n t e k) h
-  where
-    by : (o : Option Term) (p q : Option (List Term)) → ((us : List Term) → p ≡ Some us → q ≡ Some (us ++ t ∷ [])) → both (λ u us. u ∷ us) o p ≡ Some ts → both (λ u us. u ∷ us) o q ≡ Some (ts ++ t ∷ [])
-    by None p q next e = absurd cc
-    by (Some u) None q next e = absurd cc
-    by (Some u) (Some us) q next e =
-        let is : ◌≡◌ {A = List Term} (u ∷ us) ts = cc in
-        ap (both (λ v vs. v ∷ vs) (Some u)) (next us refl) ∙ ap (λ vs. Some (vs ++ t ∷ [])) is
+named_push sig xs [] ts n t h k = none_push t ts (named_term sig xs n) h k
+named_push sig xs (m ∷ ns) ts n t h k = both_push t ts (named_term sig xs m) (named_terms sig xs ns) (named_terms sig xs (ns ++ n ∷ [])) (λ us e. named_push sig xs ns us n t e k) h
 
 arguments_fit : (L : Language) (us : List Use) (b : Bound) (f : List ℕ) (wanted : List SortName) (ts : List Term) → length wanted ≡ length ts → arguments_fault L us b f wanted ts ≡ None → fit wanted (map (sort_of L b) ts) ≡ true
 arguments_fit L us b f [] [] l h = refl

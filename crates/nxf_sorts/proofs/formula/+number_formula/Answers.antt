@@ -1,4 +1,4 @@
-use Rattle.std.proofs.Common.{◌≡◌, ◌+◌, [], ◌∷◌, ◌++◌, List, drop, take, map, Some, ap, ◌∙◌, sym, subst, arith}
+use Rattle.std.proofs.Common.{◌≡◌, ◌+◌, [], ◌∷◌, ◌++◌, drop, take, map, Some, ap, ◌∙◌, sym, subst}
 use Rattle.std.specs.Option.{option_or}
 use Rattle.std.proofs.lemmas.List.{at_drop_more}
 use Rattle.std.proofs.lemmas.Grind.{take_at_read}
@@ -9,11 +9,11 @@ use Rattle.nxf_tree.specs.SortFaults.{formula_fault}
 use Rattle.numbered_definitions.specs.declared.node.Node.{Node}
 use Rattle.numbered_definitions.specs.declared.node.Node as node
 use Rattle.numbered_definitions.specs.NamedForm.{NodeNot, NodePair, NodeQuant, NodeModal, named_forms}
-use Rattle.formula_cells.specs.Stored.{Stored, node_at, term_at}
+use Rattle.formula_cells.specs.Stored.{node_at, term_at}
 use Rattle.formula_cells.specs.Putting.{Puts, PutsAll}
 use Rattle.formula_cells.proofs.CallerLemmas.{grows_twice, node_kept, puts_more, puts_push}
 use Rattle.nxf_sorts.specs.steps.Scope.{Scope, variables, bound_in}
-use Rattle.nxf_sorts.specs.steps.Numbering.{IsFault, IsScope, NumbersFormula, KnowsIndexes, KnowsAllIndexes, formulas_faults}
+use Rattle.nxf_sorts.specs.steps.Numbering.{IsFault, NumbersFormula, KnowsIndexes, KnowsAllIndexes, formulas_faults}
 use Rattle.nxf_sorts.proofs.UseLemmas.{fault_first, fault_is, refused_with}
 use Rattle.nxf_sorts.proofs.FormulaLemmas.{fault_Not, fault_And, fault_Or, same_numbered, differ_numbered, not_numbered, and_numbered, or_numbered, pair_numbered, pair_first, pair_second, quantified_refused, quantified_numbered, modal_numbered, knows_member, forms_push}
 use Rattle.nxf_sorts.proofs.formula.+number_formula.Goals as goal

@@ -1,4 +1,4 @@
-use Rattle.std.proofs.Common.{◌≡◌, ◌+◌, List, [], ◌∷◌, ◌++◌, get_or, drop, take, map, arith, Some, ap, ◌∙◌, sym, subst}
+use Rattle.std.proofs.Common.{◌≡◌, ◌+◌, [], ◌∷◌, ◌++◌, get_or, drop, take, map, arith, Some, ap, ◌∙◌, sym, subst}
 use Rattle.std.proofs.lemmas.List.{at_drop_more}
 use Rattle.std.proofs.lemmas.Grind.{take_at_read}
 use Rattle.nxf_tree.specs.declared.tree.Term.{Term, Var, App}
@@ -13,7 +13,7 @@ use Rattle.formula_cells.specs.Stored.{term_at}
 use Rattle.formula_cells.specs.Putting.{PutsTerm, PutsTerms}
 use Rattle.formula_cells.proofs.CallerLemmas.{puts_term_here, puts_term_more, puts_term_push}
 use Rattle.nxf_sorts.specs.steps.Scope.{variables, bound_in}
-use Rattle.nxf_sorts.specs.steps.Numbering.{IsFault, NumbersTerm, NumbersArgument, NumbersTerms}
+use Rattle.nxf_sorts.specs.steps.Numbering.{IsFault, NumbersTerm, NumbersArgument}
 use Rattle.nxf_sorts.proofs.UseLemmas.{fault_is, refused_with}
 use Rattle.nxf_sorts.proofs.TermLemmas.{variable_numbered, variable_free, symbol_refused, arguments_refused, application_numbered, argument_apart, refused_here, fine_here, named_push}
 use Rattle.nxf_sorts.proofs.number.+number_term.Goals as goal

@@ -1,4 +1,4 @@
-use Rattle.std.proofs.Common.{◌≡◌, List, [], None, Some, ap, ◌∙◌, sym, subst}
+use Rattle.std.proofs.Common.{◌≡◌, List, [], Some, ap, ◌∙◌, sym, subst}
 use Rattle.std.specs.Option.{option_map, option_or}
 use Rattle.logic_spec.specs.Asked.{asked_by}
 use Rattle.nxf_tree.specs.declared.tree.File.{File}

@@ -1,7 +1,6 @@
-use Rattle.std.proofs.Common.{◌≡◌, [], ◌∷◌, ◌++◌, List, ap, ◌∙◌, sym, subst}
+use Rattle.std.proofs.Common.{◌≡◌, [], ◌∷◌, ◌++◌, ap, ◌∙◌, sym, subst}
 use Rattle.nxf_tree.specs.Sorting.{modal_language}
 use Rattle.nxf_tree.specs.SortFaults.{formula_fault}
-use Rattle.numbered_definitions.specs.declared.node.Numbered.{Numbered}
 use Rattle.formula_cells.specs.Stored.{node_at, formulas_in}
 use Rattle.formula_cells.specs.Putting.{Puts}
 use Rattle.nxf_sorts.specs.steps.Scope.{Scope, bound_in}
