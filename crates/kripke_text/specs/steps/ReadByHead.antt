@@ -1,5 +1,5 @@
 -- What reading gives, by what the head of a text says and by its statements.
-use Rattle.std.specs.Prelude.{◌≡◌, ℕ, List}
+use Rattle.std.specs.Prelude.{◌≡◌, List}
 use Rattle.nxf_tree.specs.declared.tree.Signature.{Signature}
 use Rattle.nxf_tree.specs.Rows.{size_at}
 use Rattle.fin_struct.specs.KripkeTables.{KripkeTables, blank_kripke, others_of}

@@ -1,5 +1,5 @@
 -- What reading the statement of a table gives, by the table in a structure: its label, its number and its values are those of the table.
-use Rattle.std.specs.Prelude.{◌≡◌, ℕ, Bool, List, Option, Some}
+use Rattle.std.specs.Prelude.{ℕ, Bool, List, Option, Some}
 use Rattle.std.specs.Option.{option_map}
 use Rattle.nxf_tree.specs.declared.tree.Signature.{Signature}
 use Rattle.nxf_tree.specs.Rows.{size_at}
