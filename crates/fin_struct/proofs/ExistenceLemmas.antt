@@ -22,4 +22,4 @@ someone-listed view now s t w a c x k same below read is world element got =
     let kripke = seen_kripke view now k same in
     let number = existence_read view now s t x same below read is in
     varying-listed (existence_number now s) now.tables (w ∷ a ∷ []) t c number kripke.filled (existence_in now s t w a kripke number world element)
-      (got ∙ ap (λ (y : KripkeTables). cell (table_at y.tables t) (w ∷ a ∷ [])) same)
+    (got ∙ ap (λ (y : KripkeTables). cell (table_at y.tables t) (w ∷ a ∷ [])) same)

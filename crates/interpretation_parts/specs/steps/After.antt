@@ -30,7 +30,7 @@ JudgesPart held rows closures part answer =
 abbrev pub AddsPart : Result (Unit {0}) PartError → Held → Part → List (List ℕ × ℕ) → Closures → List (List ℕ × ℕ) → Closures → Type 0
 AddsPart answer held part rows closures new_rows new_closures =
     (parts : List Part) → IsAfter (context_in held) rows closures parts
-        → OnOk answer (IsAfter (context_in held) new_rows new_closures (parts ++ part ∷ []))
+    → OnOk answer (IsAfter (context_in held) new_rows new_closures (parts ++ part ∷ []))
 
 -- the refusal is that of the first fault, or there is no memory
 abbrev pub RefusesFault : Option (ℕ × PartFault) → InterpError → Type 0

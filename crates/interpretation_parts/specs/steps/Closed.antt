@@ -28,4 +28,4 @@ Lists answer old more new = (before : List (List ℕ × ℕ)) → AreNoted befor
 abbrev pub JudgesClosure : Held → Closures → SortName → List (List ℕ) → Result (Unit {0}) PartError → Type 0
 JudgesClosure held closures sort names answer =
     (before : List Part) → AreNoted (listings_before (context_in held) before) closures
-        → Judges (closure_fault (context_in held) before sort names) answer
+    → Judges (closure_fault (context_in held) before sort names) answer

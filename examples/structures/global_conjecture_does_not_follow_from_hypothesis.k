@@ -1,0 +1,3 @@
+tff(worlds,interpretation,! [W: $world] : ( W = "w0" | W = "w1" )).
+tff(local,interpretation,$local_world = "w0").
+tff(p,interpretation,$in_world("w0",p)).

@@ -1,0 +1,7 @@
+tff(worlds,interpretation,! [W: $world] : ( W = "w0" | W = "w1" )).
+tff(local,interpretation,$local_world = "w1").
+tff(domain,interpretation,! [X: $i] : ( X = "$i0" | X = "$i1" )).
+tff(exists,interpretation,$exists_in_world("w0","$i0") & $exists_in_world("w0","$i1") & $exists_in_world("w1","$i0")).
+tff(f,interpretation,f("$i0","$i0") = "$i0" & f("$i0","$i1") = "$i1" & f("$i1","$i0") = "$i1" & f("$i1","$i1") = "$i1").
+tff(here,interpretation,here = "$i0").
+tff(ghost,interpretation,ghost = "$i1").
