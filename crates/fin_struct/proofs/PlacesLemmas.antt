@@ -92,3 +92,12 @@ place_injective (size ∷ sizes) (x ∷ row) (y ∷ other) h k e =
 -- a place under a slowest number is below the next one's
 pub total_below : (first rows at : ℕ) → at < rows → first * rows + at < (first + 1) * rows
 total_below first rows at h = omega (arith, add-mul first 1 rows)
+
+-- the place of a row of two numbers
+pub place_pair : (sizes : List ℕ) (x y : ℕ) → InRange sizes (x ∷ y ∷ []) → place sizes (x ∷ y ∷ []) ≡ x * get_or sizes 1 0 + y
+place_pair [] x y h = absurd h
+place_pair (a ∷ []) x y h = absurd h.1
+place_pair (a ∷ b ∷ []) x y h =
+    let one : b * 1 ≡ b = omega arith in
+    rw one (let e : x * b + (y * 1 + 0) ≡ x * b + y = omega arith in e)
+place_pair (a ∷ b ∷ c ∷ sizes) x y h = absurd h.1.1

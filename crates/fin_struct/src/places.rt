@@ -1,5 +1,5 @@
 //! The places of rows in a table, the first number slowest.
-ghost use Rattle.std.specs.Prelude.{◌≡◌, ◌+◌, ◌*◌, ◌≤◌, min};
+ghost use Rattle.std.specs.Prelude.{◌≡◌, ◌+◌, ◌*◌, ◌≤◌, [], ◌∷◌, min};
 ghost use Rattle.fin_struct.specs.Places.{rows_count, InRange, place, row_under};
 
 /// The number of rows, or `u64::MAX` where that is greater.
@@ -34,9 +34,20 @@ pub fn place_under(sizes: &[u32], world: Option<u32>, args: &[u32]) -> usize
 {
     match world {
         None => place_of(0, sizes, args),
+        // the rows that evaluators walk most: pairs of worlds, and elements at worlds
+        Some(world) if args.len() == 1 => place_of_pair(sizes, world, args[0]),
         Some(world) => match sizes.split_first() {
             None => 0,
             Some((_, others)) => place_of(world as usize, others, args),
         },
     }
+}
+
+/// The place of a row of two numbers.
+pub fn place_of_pair(sizes: &[u32], first: u32, second: u32) -> usize
+    requires in_range { InRange sizes.now (first ∷ second ∷ []) }
+    requires small { rows_count sizes.now ≤ 4194304 }
+    ensures { result ≡ place sizes.now (first ∷ second ∷ []) }
+{
+    first as usize * sizes[1] as usize + second as usize
 }
