@@ -10,5 +10,5 @@ mod typing;
 
 pub use bytes::{put, put_between, write_numeral, write_variable};
 pub use front::write_front;
-pub use name::{write_name, write_sort};
+pub use name::{write_name, write_name_bytes, write_sort};
 pub use typing::write_typing;

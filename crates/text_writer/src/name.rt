@@ -11,16 +11,24 @@ use nxf_tree::SortName;
 
 /// Appends a name: bare exactly where it is a word of a letter from `a` to `z`, then letters, digits and `_`; else in single
 /// quotes, with `\` before `'` and `\`. Where there is no memory, what the buffer held stays at its front.
-#[tactic(auto, using(crate::proofs::Starts::starts_after, crate::proofs::Starts::starts_same))]
 pub fn write_name(out: &mut Vec<u8>, name: &Text) -> Result<(), Memory>
     ensures text { OnOk result (out.new.items ≡ out.old.items ++ name_text name.now) }
     ensures kept { OnErr result (StartsWith out.new.items out.old.items) }
 {
-    if is_bare(name.bytes()) {
-        return put(out, name.bytes());
+    write_name_bytes(out, name.bytes())
+}
+
+/// The same for the bytes of a name.
+#[tactic(auto, using(crate::proofs::Starts::starts_after, crate::proofs::Starts::starts_same))]
+pub fn write_name_bytes(out: &mut Vec<u8>, name: &[u8]) -> Result<(), Memory>
+    ensures text { OnOk result (out.new.items ≡ out.old.items ++ name_text name.now) }
+    ensures kept { OnErr result (StartsWith out.new.items out.old.items) }
+{
+    if is_bare(name) {
+        return put(out, name);
     }
     put(out, b"'")?;
-    write_escaped(out, name.bytes())?;
+    write_escaped(out, name)?;
     put(out, b"'")
 }
 
