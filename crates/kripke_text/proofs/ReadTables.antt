@@ -3,16 +3,16 @@ use Rattle.std.proofs.Common.{◌≡◌, ℕ, suc, ◌+◌, ◌<◌, ◌≤◌, 
 use Rattle.std.specs.Prelude.{nat_eq, IsSome}
 use Rattle.std.specs.List.{fold}
 use Rattle.std.proofs.Math.ListN.{set}
-use Rattle.std.proofs.lemmas.List.{drop_more, drop_all, take_all, length-drop, length-map, get_or-set_same, set-set, set-get_or}
+use Rattle.std.proofs.lemmas.List.{drop_all, take_all, length-map, get_or-set_same, set-set, set-get_or}
 use Rattle.std.proofs.lemmas.Bool.{true≢false}
 use Rattle.std.proofs.lemmas.Grind.{flat_map-append}
 use Rattle.nxf_tree.specs.declared.tree.Signature.{Signature}
 use Rattle.nxf_tree.specs.Rows.{Table, Rows, Values, IsTableOf, AllBelow, all_rows, beside, has_row, those_in}
-use Rattle.fin_struct.specs.Places.{InRange, place, rows_count}
+use Rattle.fin_struct.specs.Places.{InRange, place}
 use Rattle.fin_struct.specs.Cells.{CellTable, no_table, table_at, with_cell}
 use Rattle.fin_struct.specs.RowLists.{bit_of, marked, rows_of, listed}
 use Rattle.fin_struct.specs.KripkeTables.{KripkeTables, IsKripke, IsKripkeFor, with_written}
-use Rattle.fin_struct.proofs.CallerLemmas.{small_bit, row_at, row_at-in_range, place-row_at, length-all_rows, all_rows-at}
+use Rattle.fin_struct.proofs.CallerLemmas.{small_bit, length-all_rows}
 use Rattle.plain_tokens.specs.PlainTokens.{Plain}
 use Rattle.plain_tokens.specs.Marks.{Mark, plains, mark_plains}
 use Rattle.kripke_text_definitions.specs.KripkeText as text
@@ -30,6 +30,7 @@ use Rattle.kripke_text.proofs.LinesLaw.{table_body, table_put}
 use Rattle.kripke_text.proofs.Matching.{fold_comes, done_is}
 use Rattle.kripke_text.proofs.ReadLines.{Suits, NotIn, AllApart, body_from, end_of}
 use Rattle.kripke_text.proofs.ReadLoop.{AllCells, ReadsLines, Steps, reads_step, no_value_here}
+use Rattle.kripke_text.proofs.RowPlaces.{NextRow, next_row, row_at_place, all_taken}
 use Rattle.kripke_text.proofs.SubjectReads.{table_filled, table_columns, number_in}
 use Rattle.kripke_text.proofs.TakeLines.{table_suits}
 
@@ -110,15 +111,6 @@ table_comes label sizes values t name tokens start h is_name e f =
     ∙ ap (λ (n : List ℕ). Some (plains (opening_marks n) ++ body_from label values true (all_rows sizes) c.cells)) (sym is_name))
 
 -- ---- the rows of a table
-
-pub row_at_place : (sizes : List ℕ) (k : ℕ) (row : List ℕ) → k < length (all_rows sizes) → get_or (all_rows sizes) k [] ≡ row → InRange sizes row × (place sizes row ≡ k)
-row_at_place sizes k row h e =
-    let in_count : k < rows_count sizes = omega (arith, length-all_rows sizes) in
-    let at = place-row_at sizes k in_count in
-    let range = row_at-in_range sizes k in_count in
-    let is : get_or (all_rows sizes) k [] ≡ row_at sizes k = ap (λ (i : ℕ). get_or (all_rows sizes) i []) (sym at) ∙ all_rows-at sizes (row_at sizes k) range in
-    let same : row_at sizes k ≡ row = sym is ∙ e in
-    (subst (InRange sizes) same range, ap (place sizes) (sym same) ∙ at)
 
 not_in : (row : List ℕ) (rows : List (List ℕ)) → ((j : ℕ) → j < length rows → row ≡ get_or rows j [] → ⊥) → NotIn row rows
 not_in row [] h = tt
@@ -204,31 +196,16 @@ table_begins sig subject view start rows is for_sig h blank e =
 
 -- the row that the loop has come to
 pub record RowAt (sig : Signature) (subject : Subject) (view made : KripkeTables) (rows : List (List ℕ)) (at : ℕ) (row : List ℕ) : Type 0 where
-  pub below : at < length (all_rows (table_of view subject).sizes)
-  pub is_row : get_or (all_rows (table_of view subject).sizes) at [] ≡ row
-  pub rest : drop 1 rows ≡ drop (at + 1) (all_rows (table_of view subject).sizes)
-  pub place_is : place (table_of view subject).sizes row ≡ at
+  pub next : NextRow (table_of view subject).sizes at rows row
   pub in_range : InRange (table_of made subject).sizes row
-
-some_left : (all rows : List (List ℕ)) (at : ℕ) (row : List ℕ) → rows ≡ drop at all → rows ≡ row ∷ drop 1 rows → at < length all
-some_left all rows at row e f = omega (arith, ap length e, ap length f, length-drop at all)
-
-heads_same : (r s : List ℕ) (rs ss : List (List ℕ)) → r ∷ rs ≡ s ∷ ss → (r ≡ s) × (rs ≡ ss)
-heads_same r s rs ss e = ((cc), (cc))
 
 pub row_here : (sig : Signature) (subject : Subject) (view made : KripkeTables) (start now : Option (List Plain)) (none : Bool) (rows : List (List ℕ)) (row : List ℕ) → number_of view subject < length view.tables → (t : TableAt sig subject view start now none rows made) → rows ≡ row ∷ drop 1 rows → RowAt sig subject view made rows t.at row
 row_here sig subject view made start now none rows row h t first =
-    let all = all_rows (table_of view subject).sizes in
-    let below = some_left all rows t.at row t.rows_are first in
-    let both = heads_same row (get_or all t.at []) (drop 1 rows) (drop (t.at + 1) all) (sym first ∙ t.rows_are ∙ drop_more all t.at [] below) in
-    let there = row_at_place (table_of view subject).sizes t.at row below (sym both.0) in
+    let next = next_row (table_of view subject).sizes rows t.at row t.rows_are first in
     let same = cells_same view made subject t.cells h t.made_is in
     record {
-      below = below;
-      is_row = sym both.0;
-      rest = both.1;
-      place_is = there.1;
-      in_range = subst (λ (x : CellTable). InRange x.sizes row) (sym same.table) there.0;
+      next = next;
+      in_range = subst (λ (x : CellTable). InRange x.sizes row) (sym same.table) next.in_range;
     }
 
 -- what is written in the structure, as a step of the cells
@@ -262,17 +239,17 @@ table_next sig subject view made new start old now none after rows more row is f
     let in_tables = number_in sig view subject is for_sig h in
     let here = row_here sig subject view made start old none rows row in_tables t first in
     let r = row_read sig subject view made new t.cells row none after old now (cells_same view made subject t.cells in_tables t.made_is) reads in
-    let s = stepped view made new (number_of view subject) t.at table.values r.found t.cells row in_tables t.made_is here.place_is r.written in
+    let s = stepped view made new (number_of view subject) t.at table.values r.found t.cells row in_tables t.made_is here.next.place_is r.written in
     record {
       at = t.at + 1;
-      at_in = omega (arith, here.below);
-      rows_are = next ∙ here.rest;
+      at_in = omega (arith, here.next.below);
+      rows_are = next ∙ here.next.rest;
       cells = s.cells;
       made_is = s.new_is;
       within = within;
       for_sig = over;
       reads = subst (λ (b : Bool). ReadsLines label table.values (all_rows table.sizes) start now b (t.at + 1) s.cells) (sym r.after_is)
-          (reads_step label table.values (all_rows table.sizes) start old now none t.at row r.found t.cells s.cells here.below here.is_row (table_suits sig view subject is for_sig h) (long_rows sig subject view is for_sig h) (all_apart table.sizes) t.reads r.takes s.steps);
+          (reads_step label table.values (all_rows table.sizes) start old now none t.at row r.found t.cells s.cells here.next.below here.next.is_row (table_suits sig view subject is for_sig h) (long_rows sig subject view is for_sig h) (all_apart table.sizes) t.reads r.takes s.steps);
     }
 
 -- ---- a function's row without its literal
@@ -291,12 +268,9 @@ table_missing sig subject view made last name tokens start old now none rows row
     let same = cells_same view made subject t.cells in_tables t.made_is in
     let r = subst (λ (v : Option ℕ). IsSome v × TakesLine label v none row old now None) (ap (λ (x : CellTable). x.values) same.table) reads in
     let c = has_cells sizes values table shape in
-    missing_by label values (all_rows sizes) start old now none t.at row t.cells c.cells r.0 here.below here.is_row (table_suits sig view subject is for_sig h) (long_rows sig subject view is for_sig h) (all_apart sizes) t.reads r.1 c.count c.good (table_comes label sizes values table name tokens start shape is_name opened e)
+    missing_by label values (all_rows sizes) start old now none t.at row t.cells c.cells r.0 here.next.below here.next.is_row (table_suits sig view subject is for_sig h) (long_rows sig subject view is for_sig h) (all_apart sizes) t.reads r.1 c.count c.good (table_comes label sizes values table name tokens start shape is_name opened e)
 
 -- ---- behind the last row
-
-all_taken : (all rows : List (List ℕ)) (at : ℕ) → rows ≡ drop at all → rows ≡ [] → length all ≤ at
-all_taken all rows at e f = omega (arith, ap length e, ap length f, length-drop at all)
 
 done_by : (sig : Signature) (subject : Subject) (view made : KripkeTables) (name : List ℕ) (tokens start now mid last : Option (List Plain)) (none : Bool) (rows : List (List ℕ)) (b : Bool) → IsKripke view → IsKripkeFor sig view → IsIn sig subject → name ≡ text.label_name (label_of sig subject) → start ≡ fold matched tokens (opening_marks name) → TableAt sig subject view start now none rows made → rows ≡ [] → mid ≡ fold matched now (truth_marks none) → last ≡ fold matched mid closing_marks → (b ≡ true → last ≡ Some []) × (last ≡ Some [] → b ≡ true) → ReadsTable (label_of sig subject) (number_of view subject) tokens view made b
 done_by sig subject view made name tokens start now mid last none rows true is for_sig h is_name opened t end truth closed done =

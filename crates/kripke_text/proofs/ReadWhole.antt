@@ -1,31 +1,32 @@
 -- A whole text: its head, the limits and its tables, and what is said where one of these is refused.
-use Rattle.std.proofs.Common.{◌≡◌, ℕ, ◌<◌, ◌≤◌, Bool, true, false, cond, List, [], ◌∷◌, ◌++◌, map, Result, Ok, Err, refl, sym, ap, ap₂, subst, ◌∙◌, arith}
-use Rattle.std.specs.Prelude.{min, IfOk, IfErr}
+use Rattle.std.proofs.Common.{◌≡◌, ℕ, ◌<◌, List, [], ◌∷◌, ◌++◌, map, Result, Ok, Err, sym, ap, ap₂, subst, ◌∙◌, arith}
+use Rattle.std.specs.Prelude.{IfOk, IfErr}
 use Rattle.std.proofs.lemmas.List.{map-append}
 use Rattle.nxf_tree.specs.declared.tree.Signature.{Signature}
 use Rattle.nxf_tree.specs.declared.tree.SortEntry.{SortEntry}
 use Rattle.nxf_tree.specs.Names.{user_sort}
 use Rattle.nxf_tree.specs.Signature.{sort_names}
 use Rattle.nxf_tree.specs.ClassicalSignature.{classical_signature_of}
-use Rattle.nxf_tree.specs.Rows.{Table, Shape, AreSizes, size_at}
+use Rattle.nxf_tree.specs.Rows.{Table, AreSizes, size_at}
 use Rattle.nxf_tree.specs.WellFormed.{HasSortsInRange, IsWellFormed}
 use Rattle.tptp_lex.specs.declared.token.Token.{Token}
 use Rattle.tptp_lex.specs.Lexing.{Lexes}
 use Rattle.tptp_lex.proofs.CallerLemmas.{one_lexing}
 use Rattle.structure_laws.proofs.KripkeLists.{kripke-law, kripkes-determine}
-use Rattle.fin_struct.specs.Limits.{cells_in}
 use Rattle.fin_struct.specs.RowLists.{listed}
 use Rattle.fin_struct.specs.KripkeTables.{KripkeTables, IsKripke, IsKripkeFor, blank_kripke, kripke_shapes, kripke_structure, others_of}
-use Rattle.fin_struct.proofs.CallerLemmas.{classical-shapes, whole-lists}
+use Rattle.fin_struct.proofs.CallerLemmas.{whole-lists}
 use Rattle.plain_tokens.specs.PlainTokens.{Plain, plains_of}
 use Rattle.plain_tokens.specs.Marks.{Mark, plains}
 use Rattle.kripke_text_definitions.specs.declared.error.KripkeTextError.{KripkeTextError}
 use Rattle.kripke_text_definitions.specs.declared.error.KripkeTextError.TheVariants.{Form, TooManyWorlds, TooBig, Memory}
-use Rattle.kripke_text_definitions.specs.TokenStatements.{is_stop, in_first, statements}
+use Rattle.kripke_text_definitions.specs.TokenStatements.{statements}
 use Rattle.kripke_text_definitions.specs.KripkeText as text
 use Rattle.kripke_text_definitions.specs.Reading.{AreFew, Explains, HasHead}
 use Rattle.kripke_text_laws.proofs.Complete.{all_room, complete_tables, structure_of}
 use Rattle.kripke_text_laws.proofs.Equal.{equal-law}
+use Rattle.kripke_text_laws.proofs.Joins.{joined_back}
+use Rattle.kripke_text_laws.proofs.Limits.{few_of}
 use Rattle.kripke_text_laws.proofs.Refusals.{same_heads, no-refusal}
 use Rattle.kripke_text_laws.proofs.Splits.{joined}
 use Rattle.kripke_text_laws.proofs.Whole.{tokens_joined}
@@ -33,20 +34,6 @@ use Rattle.kripke_text_laws.proofs.WholeText.{lex-law}
 use Rattle.kripke_text.specs.Texts.{GivesOnly, IsPrintOf, IsTextOf}
 use Rattle.kripke_text.specs.steps.Reading.{AreBlank, HeadRefuses, IsHead, LimitRefuses, TablesRefuse}
 use Rattle.kripke_text.proofs.ReadTexts.{blank_tables}
-
--- ---- statements make up their tokens
-
-joined_first : (p : Plain) (ss : List (List Plain)) → joined (in_first p ss) ≡ p ∷ joined ss
-joined_first p [] = refl
-joined_first p (s ∷ ss) = refl
-
-joined_by : (p : Plain) (ss : List (List Plain)) (b : Bool) → joined (cond b ((p ∷ []) ∷ ss) (in_first p ss)) ≡ p ∷ joined ss
-joined_by p ss true = refl
-joined_by p ss false = joined_first p ss
-
-joined_back : (ps : List Plain) → joined (statements ps) ≡ ps
-joined_back [] = refl
-joined_back (p ∷ ps) = joined_by p (statements ps) (is_stop p) ∙ ap (λ (rest : List Plain). p ∷ rest) (joined_back ps)
 
 -- ---- sizes
 
@@ -61,18 +48,6 @@ classical_sizes sig sizes actual e h are = subst (λ (ns : List ℕ). AreSizes (
   where
     some_world : 0 < size_at sizes 0
     some_world = omega arith
-
--- a structure is within the limits
-few_of : (sig : Signature) (view : KripkeTables) → IsKripke view → IsKripkeFor sig view → AreFew sig view.worlds view.sizes
-few_of sig view is for_sig =
-    let shapes = for_sig.shapes ∙ sym (classical-shapes sig view.worlds view.sizes) in
-    record {
-      few_worlds = is.within.few_worlds;
-      few_cells = small _ (subst (λ (c : List Shape). cells_in c ≤ 4194304) shapes is.within.few_cells);
-    }
-  where
-    small : (n : ℕ) → n ≤ 4194304 → min n 18446744073709551615 ≤ 4194304
-    small n h = omega arith
 
 -- ---- the head
 

@@ -12,14 +12,14 @@ use Rattle.nxf_tree.specs.declared.tree.Regime.TheVariants.{Constant}
 use Rattle.nxf_tree.specs.declared.tree.SortName.{SortName}
 use Rattle.nxf_tree.specs.Signature.{constant_regime, takes_world, world_in_front, sort_at}
 use Rattle.nxf_tree.specs.Sorting.{in_range}
-use Rattle.nxf_tree.specs.Rows.{Shape, size_at, all_rows}
+use Rattle.nxf_tree.specs.Rows.{Shape, size_at}
 use Rattle.nxf_tree.specs.Structures.{symbol_shape}
-use Rattle.fin_struct.specs.Places.{InRange, place, rows_count}
+use Rattle.fin_struct.specs.Places.{InRange, rows_count}
 use Rattle.fin_struct.specs.Cells.{CellTable, cell, table_at}
 use Rattle.fin_struct.specs.RowLists.{shape_of, IsFilled}
-use Rattle.fin_struct.proofs.CallerLemmas.{numbers_end, length-all_rows, all_rows-at}
+use Rattle.fin_struct.proofs.CallerLemmas.{InRange-length, numbers_end}
 use Rattle.structure_laws.proofs.KripkeLists.{own-tables}
-use Rattle.fin_struct.specs.KripkeTables.{KripkeTables, IsKripke, IsKripkeFor, relation_table, existence_number, place_or_zero, stands_in, exists_in, symbol_table, symbol_row, takes_world_in, value_in, predicate_in}
+use Rattle.fin_struct.specs.KripkeTables.{KripkeTables, IsKripke, IsKripkeFor, existence_number, place_or_zero, stands_in, exists_in, symbol_table, symbol_row, takes_world_in}
 use Rattle.structure_laws.proofs.FirstFaultLemmas.{regime_at-place}
 use Rattle.structure_laws.proofs.KripkeNames.{places-law}
 use Rattle.kripke_text.specs.steps.Lines.{shown}
@@ -28,7 +28,7 @@ use Rattle.kripke_text_laws.specs.steps.Labels.{row_length}
 use Rattle.kripke_text.specs.steps.Subjects.{no_symbol, symbol_at, label_of, number_of, table_of, IsIn}
 use Rattle.kripke_text.specs.declared.subject.Subject.{Subject}
 use Rattle.kripke_text.specs.declared.subject.Subject.TheVariants.{Relation, Existence, Symbol}
-use Rattle.kripke_text.proofs.RowPlaces.{pair_parts, range_length, rows_few}
+use Rattle.kripke_text.proofs.RowPlaces.{pair_parts, rows_few}
 
 -- a row of a table of pairs
 pub record PairRow (table : CellTable) (m n : ℕ) (row : List ℕ) : Type 0 where
@@ -42,9 +42,6 @@ pair_row : (table : CellTable) (m n : ℕ) (row : List ℕ) → shape_of table �
 pair_row table m n row shape h =
     let p = pair_parts m n table.sizes row (ap (λ (s : Shape). s.sizes) shape) h in
     record { long = p.0; first = p.1; second = p.2; parts = p.3; values = ap (λ (s : Shape). s.values) shape }
-
-pub relation_row : (view : KripkeTables) (i : ℕ) (row : List ℕ) → IsKripke view → i < view.indexes → InRange (relation_table view i).sizes row → PairRow (relation_table view i) view.worlds view.worlds row
-relation_row view i row is h r = pair_row (relation_table view i) view.worlds view.worlds row (is.relations i h) r
 
 -- a sort that isn't constant has its table
 pub record HasTable (view : KripkeTables) (s : ℕ) : Type 0 where
@@ -80,17 +77,39 @@ pub existence_pair : (sig : Signature) (view : KripkeTables) (subject : Subject)
 existence_pair sig view subject s row is for_sig e h r =
     existence_row view s row is (existence_has sig view subject s is for_sig e h) (subst (λ (x : Subject). InRange (table_of view x).sizes row) e r)
 
+-- the world and the element in such a row
+pub record ExistenceRow (view : KripkeTables) (s w a : ℕ) : Type 0 where
+  pub sort_in : s < length view.existence
+  pub varying : IsSome (existence_number view s)
+  pub world_in : w < view.worlds
+  pub element_in : a < size_at view.sizes s
+
+pub existence_entry : (sig : Signature) (view : KripkeTables) (subject : Subject) (s w a : ℕ) (row : List ℕ) → IsKripke view → IsKripkeFor sig view → subject ≡ Existence s → IsIn sig subject → InRange (table_of view subject).sizes row → w ∷ a ∷ [] ≡ row → ExistenceRow view s w a
+existence_entry sig view subject s w a row is for_sig e h r same =
+    let has = existence_has sig view subject s is for_sig e h in
+    let pair = existence_pair sig view subject s row is for_sig e h r in
+    record {
+      sort_in = has.sort_in;
+      varying = has.varying;
+      world_in = subst (λ (x : List ℕ). get_or x 0 0 < view.worlds) (sym same) pair.first;
+      element_in = subst (λ (x : List ℕ). get_or x 1 0 < size_at view.sizes s) (sym same) pair.second;
+    }
+
 pub existence_sizes : (view : KripkeTables) (s : ℕ) → IsKripke view → HasTable view s → (table_of view (Existence s)).sizes ≡ view.worlds ∷ size_at view.sizes s ∷ []
 existence_sizes view s is has =
     ap (λ (o : Option ℕ). (table_at view.tables (place_or_zero o)).sizes) has.number ∙ ap (λ (x : Shape). x.sizes) (is.existing s has.t has.number)
 
 -- ---- what is said of rows
 
-pub pair_said : (table : CellTable) (m n : ℕ) (row : List ℕ) (r : Bool) (o : Option ℕ) → PairRow table m n row → r ≡ nat_eq (cell table (get_or row 0 0 ∷ get_or row 1 0 ∷ [])) 1 → o ≡ cond r (Some 0) None → o ≡ shown table.values (cell table row)
-pair_said table m n row r o p e f =
+pub value_said : (table : CellTable) (size v : ℕ) (row whole : List ℕ) → table.values ≡ Some size → row ≡ whole → v ≡ cell table row → Some v ≡ shown table.values (cell table whole)
+value_said table size v row whole values same e =
+    ap Some (e ∙ ap (cell table) same) ∙ ap (λ (o : Option ℕ). shown o (cell table whole)) (sym values)
+
+pub truth_said : (table : CellTable) (r : Bool) (o : Option ℕ) (row whole : List ℕ) → table.values ≡ None → row ≡ whole → r ≡ nat_eq (cell table row) 1 → o ≡ cond r (Some 0) None → o ≡ shown table.values (cell table whole)
+truth_said table r o row whole values same e f =
     f
-    ∙ ap (λ (b : Bool). cond b (Some 0) None) (e ∙ ap (λ (x : List ℕ). nat_eq (cell table x) 1) (sym p.parts))
-    ∙ ap (λ (v : Option ℕ). shown v (cell table row)) (sym p.values)
+    ∙ ap (λ (b : Bool). cond b (Some 0) None) (e ∙ ap (λ (x : List ℕ). nat_eq (cell table x) 1) same)
+    ∙ ap (λ (v : Option ℕ). shown v (cell table whole)) (sym values)
 
 pub exists_said : (view : KripkeTables) (s w a : ℕ) (r : Bool) → (has : HasTable view s) → r ≡ exists_in view s w a → r ≡ nat_eq (cell (table_of view (Existence s)) (w ∷ a ∷ [])) 1
 exists_said view s w a r has e =
@@ -119,37 +138,29 @@ row_there sig view y w row args s e = ap (λ (b : Bool). cond b (w ∷ args) arg
 pub values_there : (sig : Signature) (view : KripkeTables) (y : ℕ) (gives : Option ℕ) → SymbolThere sig view y → (symbol_at sig y).gives ≡ gives → (symbol_table view y).values ≡ option_map (size_at view.sizes) gives
 values_there sig view y gives s e = ap (λ (x : Shape). x.values) s.shape ∙ ap (option_map (size_at view.sizes)) e
 
-some_values : (o : Option ℕ) (n : ℕ) → o ≡ Some n → IsSome o
+-- the same by the symbol's entry
+entry_values : (sig : Signature) (view : KripkeTables) (y : ℕ) (entry : SymbolEntry) (gives : Option ℕ) → IsKripke view → IsKripkeFor sig view → y < length sig.symbols → entry ≡ symbol_at sig y → entry.gives ≡ gives → (symbol_table view y).values ≡ option_map (size_at view.sizes) gives
+entry_values sig view y entry gives is for_sig h e given = values_there sig view y gives (symbol_there sig view y is for_sig h) (ap (λ (x : SymbolEntry). x.gives) (sym e) ∙ given)
+
+pub function_values : (sig : Signature) (view : KripkeTables) (y sort : ℕ) (entry : SymbolEntry) → IsKripke view → IsKripkeFor sig view → y < length sig.symbols → entry ≡ symbol_at sig y → entry.gives ≡ Some sort → (symbol_table view y).values ≡ Some (size_at view.sizes sort)
+function_values sig view y sort entry = entry_values sig view y entry (Some sort)
+
+pub predicate_values : (sig : Signature) (view : KripkeTables) (y : ℕ) (entry : SymbolEntry) → IsKripke view → IsKripkeFor sig view → y < length sig.symbols → entry ≡ symbol_at sig y → entry.gives ≡ None → (symbol_table view y).values ≡ None
+predicate_values sig view y entry = entry_values sig view y entry None
+
+pub some_values : (o : Option ℕ) (n : ℕ) → o ≡ Some n → IsSome o
 some_values None n e = absurd cc
 some_values (Some m) n e = refl
-
--- a function's row
-pub function_row : (sig : Signature) (view : KripkeTables) (y sort w : ℕ) (row args : List ℕ) → SymbolThere sig view y → (symbol_at sig y).gives ≡ Some sort → row ≡ cond (takes_world (symbol_at sig y)) (w ∷ args) args → InRange (symbol_table view y).sizes row → IsSome (symbol_table view y).values × InRange (symbol_table view y).sizes (symbol_row view y w args)
-function_row sig view y sort w row args s gives e r =
-    (some_values (symbol_table view y).values (size_at view.sizes sort) (values_there sig view y (Some sort) s gives), subst (λ (x : List ℕ). InRange (symbol_table view y).sizes x) (sym (row_there sig view y w row args s e)) r)
-
-pub function_said : (sig : Signature) (view : KripkeTables) (y sort w v : ℕ) (row args : List ℕ) → SymbolThere sig view y → (symbol_at sig y).gives ≡ Some sort → row ≡ cond (takes_world (symbol_at sig y)) (w ∷ args) args → v ≡ value_in view y w args → Some v ≡ shown (symbol_table view y).values (cell (symbol_table view y) row)
-function_said sig view y sort w v row args s gives e is =
-    ap Some (is ∙ ap (cell (symbol_table view y)) (row_there sig view y w row args s e))
-    ∙ ap (λ (o : Option ℕ). shown o (cell (symbol_table view y) row)) (sym (values_there sig view y (Some sort) s gives))
 
 -- a predicate's row has a world
 world_of : (entry : SymbolEntry) → entry.gives ≡ None → takes_world entry ≡ true
 world_of entry e = ap (λ (o : Option ℕ). world_in_front o entry.designation) e
 
-pub predicate_row : (sig : Signature) (view : KripkeTables) (y w : ℕ) (row args : List ℕ) → SymbolThere sig view y → (symbol_at sig y).gives ≡ None → row ≡ cond (takes_world (symbol_at sig y)) (w ∷ args) args → InRange (symbol_table view y).sizes row → ((symbol_table view y).values ≡ None) × (row ≡ w ∷ args) × InRange (symbol_table view y).sizes (w ∷ args)
-predicate_row sig view y w row args s gives e r =
-    let whole : row ≡ w ∷ args = e ∙ ap (λ (b : Bool). cond b (w ∷ args) args) (world_of (symbol_at sig y) gives) in
-    (values_there sig view y None s gives, whole, subst (λ (x : List ℕ). InRange (symbol_table view y).sizes x) whole r)
-
-pub predicate_said : (sig : Signature) (view : KripkeTables) (y w : ℕ) (row args : List ℕ) (r : Bool) (o : Option ℕ) → SymbolThere sig view y → (symbol_at sig y).gives ≡ None → row ≡ w ∷ args → r ≡ predicate_in view y w args → o ≡ cond r (Some 0) None → o ≡ shown (symbol_table view y).values (cell (symbol_table view y) row)
-predicate_said sig view y w row args r o s gives whole e f =
-    f
-    ∙ ap (λ (b : Bool). cond b (Some 0) None) (e ∙ ap (λ (x : List ℕ). nat_eq (cell (symbol_table view y) x) 1) (sym whole))
-    ∙ ap (λ (v : Option ℕ). shown v (cell (symbol_table view y) row)) (sym (values_there sig view y None s gives))
+pub predicate_row : (sig : Signature) (y w : ℕ) (row args : List ℕ) → row ≡ cond (takes_world (symbol_at sig y)) (w ∷ args) args → (symbol_at sig y).gives ≡ None → w ∷ args ≡ row
+predicate_row sig y w row args e gives = sym (e ∙ ap (λ (b : Bool). cond b (w ∷ args) args) (world_of (symbol_at sig y) gives))
 
 world_room_by : (b : Bool) (n : ℕ) (sizes others row : List ℕ) → b ≡ true → sizes ≡ cond b (n ∷ others) others → InRange sizes row → 0 < length row
-world_room_by true n sizes others row b e h = let l = ap length e in omega (arith, l, range_length sizes row h)
+world_room_by true n sizes others row b e h = let l = ap length e in omega (arith, l, InRange-length sizes row h)
 world_room_by false n sizes others row b e h = absurd cc
 
 -- a row with a world in front has room for it
@@ -189,27 +200,6 @@ table_columns sig view (Symbol y) is for_sig h =
     let there = symbol_there sig view y is for_sig h in
     let entry = symbol_at sig y in
     ap (λ (x : Shape). length x.sizes) there.shape ∙ symbol_columns sig.sorts view.sizes view.worlds entry.name (takes_world entry) entry.args (option_map (sort_at sig.sorts) entry.gives)
-
--- the row at a place
-pub record RowHere (table : CellTable) (k : ℕ) (row : List ℕ) : Type 0 where
-  pub in_rows : k < length (all_rows table.sizes)
-  pub in_cells : k < length table.cells
-  pub is_row : get_or (all_rows table.sizes) k [] ≡ row
-  pub cell_is : cell table row ≡ get_or table.cells k 0
-  pub in_range : InRange table.sizes row
-
-pub row_here : (table : CellTable) (sizes row : List ℕ) (k : ℕ) → IsFilled table → sizes ≡ table.sizes → InRange sizes row → place sizes row ≡ k → k < rows_count sizes → RowHere table k row
-row_here table sizes row k filled e h there below =
-    let in_range = subst (λ (s : List ℕ). InRange s row) e h in
-    let at : place table.sizes row ≡ k = ap (λ (s : List ℕ). place s row) (sym e) ∙ there in
-    let few : k < rows_count table.sizes = subst (λ (s : List ℕ). k < rows_count s) e below in
-    record {
-      in_rows = omega (arith, length-all_rows table.sizes, few);
-      in_cells = omega (arith, filled.count, few);
-      is_row = ap (λ (n : ℕ). get_or (all_rows table.sizes) n []) (sym at) ∙ all_rows-at table.sizes row in_range;
-      cell_is = ap (λ (n : ℕ). get_or table.cells n 0) at;
-      in_range = in_range;
-    }
 
 -- a sort below their number is in range
 pub sort_in : (sorts : List SortEntry) (s : ℕ) → s < length sorts → in_range sorts s ≡ true

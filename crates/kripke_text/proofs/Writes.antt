@@ -1,12 +1,11 @@
 -- What is written in a structure for the literal of a row.
-use Rattle.std.proofs.Common.{◌≡◌, ℕ, ◌<◌, Bool, true, false, cond, List, [], ◌∷◌, get_or, Option, None, Some, refl, sym, ap, subst, ◌∙◌, arith}
+use Rattle.std.proofs.Common.{◌≡◌, ℕ, ◌<◌, Bool, true, false, cond, List, [], ◌∷◌, Option, None, Some, refl, sym, ap, subst, ◌∙◌, arith}
 use Rattle.std.specs.Prelude.{not, IsSome}
 use Rattle.std.proofs.lemmas.Bool.{true≢false}
 use Rattle.nxf_tree.specs.declared.tree.Signature.{Signature}
-use Rattle.nxf_tree.specs.Signature.{takes_world}
 use Rattle.fin_struct.specs.Places.{InRange}
 use Rattle.fin_struct.specs.Cells.{bound_of, with_row}
-use Rattle.fin_struct.specs.KripkeTables.{KripkeTables, IsKripke, IsKripkeFor, existence_place, symbol_number, symbol_table, with_value, with_written}
+use Rattle.fin_struct.specs.KripkeTables.{KripkeTables, IsKripke, IsKripkeFor, existence_place, with_written}
 use Rattle.fin_struct.proofs.CallerLemmas.{written_kripke}
 use Rattle.structure_laws.proofs.StructureWritesLemmas.{stays-kripke-for}
 use Rattle.plain_tokens.specs.PlainTokens.{Plain}
@@ -14,30 +13,30 @@ use Rattle.kripke_text_definitions.specs.KripkeText.{Label}
 use Rattle.kripke_text_laws.specs.steps.Labels.{has_values}
 use Rattle.kripke_text.specs.declared.subject.Subject.{Subject}
 use Rattle.kripke_text.specs.declared.subject.Subject.TheVariants.{Existence}
-use Rattle.kripke_text.specs.steps.Subjects.{symbol_at, IsIn, number_of, table_of}
+use Rattle.kripke_text.specs.steps.Subjects.{IsIn, number_of, table_of}
 use Rattle.kripke_text.specs.steps.Reading.{Bounded, cell_of, TakesLine, ReadsLine}
 use Rattle.kripke_text.proofs.ReadLines.{Suits}
-use Rattle.kripke_text.proofs.SubjectReads.{SymbolThere, row_there, values_there, existence_pair, number_in}
+use Rattle.kripke_text.proofs.SubjectReads.{existence_pair, number_in}
 
 -- ---- each kind of table
 
 -- a true row
-pub pair_written : (view new : KripkeTables) (t : ℕ) (values : Option ℕ) (row pair : List ℕ) (v : ℕ) → values ≡ None → row ≡ pair → new ≡ with_written view t pair 1 → new ≡ with_written view t row (cell_of values (Some v))
-pair_written view new t values row pair v none e f =
-    f
-    ∙ ap (λ (r : List ℕ). with_written view t r 1) (sym e)
-    ∙ ap (λ (o : Option ℕ). with_written view t row (cell_of o (Some v))) (sym none)
+pub truth_written : (view new : KripkeTables) (t : ℕ) (values : Option ℕ) (row whole : List ℕ) (v : ℕ) → values ≡ None → row ≡ whole → new ≡ with_written view t row 1 → new ≡ with_written view t whole (cell_of values (Some v))
+truth_written view new t values row whole v none same e =
+    e
+    ∙ ap (λ (r : List ℕ). with_written view t r 1) same
+    ∙ ap (λ (o : Option ℕ). with_written view t whole (cell_of o (Some v))) (sym none)
 
-pub value_written : (sig : Signature) (view new : KripkeTables) (y sort w v : ℕ) (row args : List ℕ) → SymbolThere sig view y → (symbol_at sig y).gives ≡ Some sort → row ≡ cond (takes_world (symbol_at sig y)) (w ∷ args) args → new ≡ with_value view y w args v → new ≡ with_written view (symbol_number view y) row (cell_of (symbol_table view y).values (Some v))
-value_written sig view new y sort w v row args s gives e f =
-    f
-    ∙ ap (λ (r : List ℕ). with_written view (symbol_number view y) r v) (row_there sig view y w row args s e)
-    ∙ ap (λ (o : Option ℕ). with_written view (symbol_number view y) row (cell_of o (Some v))) (sym (values_there sig view y (Some sort) s gives))
+pub value_written : (view new : KripkeTables) (t : ℕ) (values : Option ℕ) (row whole : List ℕ) (size v : ℕ) → values ≡ Some size → row ≡ whole → new ≡ with_written view t row v → new ≡ with_written view t whole (cell_of values (Some v))
+value_written view new t values row whole size v some same e =
+    e
+    ∙ ap (λ (r : List ℕ). with_written view t r v) same
+    ∙ ap (λ (o : Option ℕ). with_written view t whole (cell_of o (Some v))) (sym some)
 
-pub existence_written : (sig : Signature) (view new : KripkeTables) (subject : Subject) (s v : ℕ) (row : List ℕ) → IsKripke view → IsKripkeFor sig view → subject ≡ Existence s → IsIn sig subject → InRange (table_of view subject).sizes row → new ≡ with_written view (existence_place view s) (get_or row 0 0 ∷ get_or row 1 0 ∷ []) 1 → new ≡ with_written view (number_of view subject) row (cell_of (table_of view subject).values (Some v))
-existence_written sig view new subject s v row is for_sig e h r f =
+pub existence_written : (sig : Signature) (view new : KripkeTables) (subject : Subject) (s v w a : ℕ) (row : List ℕ) → IsKripke view → IsKripkeFor sig view → subject ≡ Existence s → IsIn sig subject → InRange (table_of view subject).sizes row → w ∷ a ∷ [] ≡ row → new ≡ with_written view (existence_place view s) (w ∷ a ∷ []) 1 → new ≡ with_written view (number_of view subject) row (cell_of (table_of view subject).values (Some v))
+existence_written sig view new subject s v w a row is for_sig e h r same f =
     let pair = existence_pair sig view subject s row is for_sig e h r in
-    pair_written view new (existence_place view s) (table_of view (Existence s)).values row _ v pair.values pair.parts f
+    truth_written view new (existence_place view s) (table_of view (Existence s)).values (w ∷ a ∷ []) row v pair.values same f
     ∙ ap (λ (x : Subject). with_written view (number_of view x) row (cell_of (table_of view x).values (Some v))) (sym e)
 
 -- ---- the structure that is written

@@ -2,11 +2,12 @@
 ghost use Rattle.std.specs.Prelude.{◌≡◌, []};
 ghost use Rattle.kripke_text.specs.steps.Taking.{printed};
 
+use crate::object::write_object;
 use crate::taker::Taker;
-use crate::written::{put, write_name, write_object};
 use nxf_base::Memory;
 use std::alloc::Global;
 use std::marker::Model;
+use text_writer::{put, write_name_bytes};
 
 /// What is printed so far.
 #[derive(Drop)]
@@ -56,7 +57,7 @@ impl Taker for Page {
     }
 
     fn name(&mut self, text: &[u8]) -> Result<(), Memory> {
-        write_name(&mut self.bytes, text)
+        write_name_bytes(&mut self.bytes, text)
     }
 
     fn object(&mut self, front: &[u8], number: u32) -> Result<(), Memory> {

@@ -9,10 +9,10 @@ ghost use Rattle.kripke_text.specs.steps.Reading.{Bounded, IsBlank};
 ghost use Rattle.kripke_text_laws.specs.steps.Labels.{has_values, row_length};
 ghost use Rattle.kripke_text.specs.steps.Subjects.{IsIn, label_of, table_of};
 
+use crate::columns::column_sizes;
 use crate::matcher::Matcher;
 use crate::pieces::{close_statement, equals, lead, open_statement, prefix, truth};
-use crate::rows::column_sizes;
-use crate::subject::{Subject, split_row, statement_name, symbol_entry, takes_world};
+use crate::subject::{Subject, pair, statement_name, symbol_entry, symbol_parts};
 use crate::table::{back, front};
 use classical_syntax::sort_at as sort_name;
 use fin_struct::{Kripke, Rows};
@@ -106,8 +106,14 @@ fn write_line(over: &Signature, kripke: &mut Kripke, subject: Subject, row: &[u3
     ensures { kripke.new ≡ with_literal kripke.old subject row.now number }
 {
     match subject {
-        Subject::Relation(index) => kripke.set_related(index, row[0], row[1], true),
-        Subject::Existence(sort) => kripke.set_exists(sort, row[0], row[1], true),
+        Subject::Relation(index) => {
+            let (from, to) = pair(row);
+            kripke.set_related(index, from, to, true)
+        }
+        Subject::Existence(sort) => {
+            let (world, element) = pair(row);
+            kripke.set_exists(sort, world, element, true)
+        }
         Subject::Symbol(symbol) => write_symbol(over, kripke, symbol, row, number),
     }
 }
@@ -120,8 +126,8 @@ fn write_symbol(over: &Signature, kripke: &mut Kripke, symbol: u32, row: &[u32],
     requires bounded { Bounded (symbol_table kripke.old symbol).values number }
     ensures { kripke.new ≡ with_symbol_literal kripke.old symbol row.now number }
 {
+    let (world, args) = symbol_parts(over, kripke, symbol, row);
     let entry = symbol_entry(over, symbol);
-    let (world, args) = split_row(takes_world(entry), row);
     match entry.gives {
         Some(_) => kripke.set_value(symbol, world, args, number),
         None => kripke.set_holds(symbol, world, args, true),

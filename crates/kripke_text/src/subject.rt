@@ -1,11 +1,11 @@
 //! The tables of a signature and of a structure, one by one.
-ghost use Rattle.std.specs.Prelude.{◌≡◌, ◌<◌, ◌≤◌, ◌^◌, ◌+◌, ◌∷◌, ◌++◌, [], true, false, length, IfOk, OnOk, if◌then◌else◌, ℕ};
+ghost use Rattle.std.specs.Prelude.{◌≡◌, ◌<◌, ◌≤◌, ◌^◌, ◌+◌, ◌∷◌, ◌++◌, [], true, false, length, None, IfOk, OnOk, if◌then◌else◌, ℕ};
 ghost use Rattle.nxf_tree.specs.Signature as named;
 ghost use Rattle.nxf_tree.specs.WellFormed.{IsWellFormed};
 ghost use Rattle.fin_struct.specs.Cells.{cell};
 ghost use Rattle.fin_struct.specs.FirstFault.{index_at};
 ghost use Rattle.fin_struct.specs.Places.{InRange};
-ghost use Rattle.fin_struct.specs.KripkeTables.{IsKripke, IsKripkeFor, existence_number, symbol_table};
+ghost use Rattle.fin_struct.specs.KripkeTables.{IsKripke, IsKripkeFor, symbol_row, symbol_table};
 ghost use Rattle.kripke_text_definitions.specs.KripkeText as text;
 ghost use Rattle.kripke_text.specs.steps.Lines.{shown};
 ghost use Rattle.kripke_text.specs.steps.Subjects.{symbol_at, label_of, IsIn, table_of, relations_from, existences_from, symbols_from, subjects_of};
@@ -129,6 +129,31 @@ fn chosen(is_true: bool) -> Option<u32>
     if is_true { Some(0) } else { None }
 }
 
+/// The world and the arguments in a row of a symbol's table; any number for the world where the row has none.
+pub fn symbol_parts<'a>(
+    over: &Signature,
+    kripke: &Kripke,
+    symbol: u32,
+    row: &'a [u32],
+) -> (u32, &'a [u32])
+    requires within { IsKripke kripke.now }
+    requires over { IsKripkeFor over.now kripke.now }
+    requires symbol_in { symbol < length over.now.symbols }
+    requires row_in { InRange (symbol_table kripke.now symbol).sizes row.now }
+    ensures row { symbol_row kripke.now symbol result.0 result.1.now ≡ row.now }
+    ensures predicate { (symbol_at over.now symbol).gives ≡ None → result.0 ∷ result.1.now ≡ row.now }
+{
+    split_row(takes_world(symbol_entry(over, symbol)), row)
+}
+
+/// The two numbers of a row of pairs.
+pub fn pair(row: &[u32]) -> (u32, u32)
+    requires { length row.now ≡ 2 }
+    ensures { result.0 ∷ result.1 ∷ [] ≡ row.now }
+{
+    (row[0], row[1])
+}
+
 /// The value that is printed for a row, or None where the row isn't printed.
 pub fn line(over: &Signature, kripke: &Kripke, subject: Subject, row: &[u32]) -> Option<u32>
     requires within { IsKripke kripke.now }
@@ -138,8 +163,14 @@ pub fn line(over: &Signature, kripke: &Kripke, subject: Subject, row: &[u32]) ->
     ensures { result ≡ shown (table_of kripke.now subject).values (cell (table_of kripke.now subject) row.now) }
 {
     match subject {
-        Subject::Relation(index) => chosen(kripke.related(index, row[0], row[1])),
-        Subject::Existence(sort) => chosen(kripke.exists(sort, row[0], row[1])),
+        Subject::Relation(index) => {
+            let (from, to) = pair(row);
+            chosen(kripke.related(index, from, to))
+        }
+        Subject::Existence(sort) => {
+            let (world, element) = pair(row);
+            chosen(kripke.exists(sort, world, element))
+        }
         Subject::Symbol(symbol) => symbol_line(over, kripke, symbol, row),
     }
 }
@@ -151,8 +182,8 @@ fn symbol_line(over: &Signature, kripke: &Kripke, symbol: u32, row: &[u32]) -> O
     requires row_in { InRange (symbol_table kripke.now symbol).sizes row.now }
     ensures { result ≡ shown (symbol_table kripke.now symbol).values (cell (symbol_table kripke.now symbol) row.now) }
 {
+    let (world, args) = symbol_parts(over, kripke, symbol, row);
     let entry = symbol_entry(over, symbol);
-    let (world, args) = split_row(takes_world(entry), row);
     match entry.gives {
         Some(_) => Some(kripke.value(symbol, world, args)),
         None => chosen(kripke.holds(symbol, world, args)),

@@ -11,17 +11,17 @@ ghost use Rattle.kripke_text_laws.specs.steps.Labels.{row_length};
 ghost use Rattle.kripke_text.specs.steps.Subjects.{IsIn, label_of, table_of};
 ghost use Rattle.kripke_text.specs.steps.Written.{table_marks};
 
+use crate::columns::column_sizes;
 use crate::pieces::{
     access, application, close_statement, end_place, existence, lead, open_statement, place, truth,
     value_of,
 };
-use crate::rows::{column_sizes, count_rows, write_row};
 use crate::subject::{
     Subject, index_name, line, split_row, statement_name, symbol_entry, takes_world,
 };
 use crate::taker::Taker;
 use classical_syntax::sort_at;
-use fin_struct::Kripke;
+use fin_struct::{Kripke, Rows};
 use nxf_base::Memory;
 use nxf_tree::{Signature, SymbolEntry};
 use std::alloc::Global;
@@ -149,15 +149,12 @@ fn literals<M: Taker>(
     ensures marks { OnOk result (out.new ≡ fold M.takes out.old (lines_in (label_of over.now subject) (table_of kripke.now subject))) }
 {
     let sizes = column_sizes(alloc, over, kripke, subject)?;
-    let sizes = sizes.as_slice();
-    let count = count_rows(sizes);
-    let mut numbers = vec![in alloc; 0u32; sizes.len()]?;
-    let row = numbers.as_mut_slice();
+    let mut rows = Rows::new(alloc, sizes.as_slice())?;
     let mut none = true;
-    for place in 0..count {
-        write_row(sizes, count, place, row);
+    while let Some(row) = rows.row() {
         let shown = line(over, kripke, subject, row);
         none = put_line(out, over, subject, row, shown, none)?;
+        rows.advance();
     }
     Ok(none)
 }

@@ -1,4 +1,6 @@
 pub mod Splits
+pub mod Joins
+pub mod Limits
 pub mod Stops
 pub mod Whole
 pub mod Apart

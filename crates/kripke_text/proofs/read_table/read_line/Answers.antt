@@ -1,7 +1,7 @@
-use Rattle.std.proofs.Common.{◌∙◌, subst}
+use Rattle.std.proofs.Common.{sym, ◌∙◌, subst}
 use Rattle.kripke_text.specs.steps.Reading.{TakesLine}
 use Rattle.kripke_text.specs.steps.Subjects.{label_of, number_of, table_of}
-use Rattle.kripke_text.proofs.RowPlaces.{range_length}
+use Rattle.fin_struct.proofs.CallerLemmas.{InRange-length}
 use Rattle.kripke_text.proofs.SubjectReads.{table_columns}
 use Rattle.kripke_text.proofs.TakeLines.{table_suits}
 use Rattle.kripke_text.proofs.Writes.{line_within, line_missing}
@@ -9,7 +9,7 @@ use Rattle.kripke_text.proofs.read_table.read_line.Goals as goal
 
 pub take_line-requires-clause-long : goal.take_line-requires-clause-long
 take_line-requires-clause-long c =
-    range_length (table_of c.args.kripke.now c.args.subject).sizes c.args.row.now c.requires.row_in
+    sym (InRange-length (table_of c.args.kripke.now c.args.subject).sizes c.args.row.now c.requires.row_in)
     ∙ table_columns c.args.over.now c.args.kripke.now c.args.subject c.requires.within c.requires.over c.requires.subject_in
 
 pub returns-in-Some-clause-within : goal.returns-in-Some-clause-within

@@ -2,7 +2,7 @@ use Rattle.std.proofs.Common.{◌≡◌, [], ◌∷◌, sym, ap, subst, ◌∙�
 use Rattle.nxf_tree.specs.Structures.{symbol_shape}
 use Rattle.kripke_text.specs.steps.Subjects.{IsIn, table_of}
 use Rattle.kripke_text.proofs.SubjectReads.{existence_has, existence_sizes, symbol_there, if_ok}
-use Rattle.kripke_text.proofs.rows.column_sizes.Goals as goal
+use Rattle.kripke_text.proofs.columns.column_sizes.Goals as goal
 
 pub returns-in-Existence : goal.returns-in-Existence
 returns-in-Existence c =

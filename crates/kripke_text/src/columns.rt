@@ -1,8 +1,6 @@
-//! The rows of a table, in row-major order.
-ghost use Rattle.std.specs.Prelude.{◌≡◌, ◌<◌, ◌≤◌, ◌+◌, ◌∷◌, ◌++◌, [], map, length, min, IfOk, OnOk, if◌then◌else◌};
+//! The sizes of the columns of a table.
+ghost use Rattle.std.specs.Prelude.{◌≡◌, ◌∷◌, ◌++◌, [], map, IfOk, OnOk, if◌then◌else◌};
 ghost use Rattle.nxf_tree.specs.Rows.{size_at};
-ghost use Rattle.fin_struct.specs.Places.{rows_count, InRange};
-ghost use Rattle.fin_struct.specs.Places as places;
 ghost use Rattle.fin_struct.specs.KripkeTables.{IsKripke, IsKripkeFor};
 ghost use Rattle.nxf_tree.specs.Structures.{symbol_shape};
 ghost use Rattle.kripke_text.specs.steps.Subjects.{IsIn, table_of};
@@ -66,32 +64,4 @@ fn add_sizes(kripke: &Kripke, sorts: &[u32], sizes: &mut List<u32>) -> Result<()
         sizes.push(kripke.size(*sort))?;
     }
     Ok(())
-}
-
-/// The number of rows, or `u64::MAX` where that is greater.
-pub fn count_rows(sizes: &[u32]) -> u64
-    ensures { result ≡ min (rows_count sizes.now) 18446744073709551615 }
-{
-    let mut count: u64 = 1;
-    for size in sizes {
-        count = count.saturating_mul(u64::from(*size));
-    }
-    count
-}
-
-/// Writes the row at a place below the number of rows, of which there are that many.
-pub fn write_row(sizes: &[u32], count: u64, place: u64, row: &mut [u32])
-    requires long { length row.old ≡ length sizes.now }
-    requires counted { count ≡ rows_count sizes.now }
-    requires place_in { place < count }
-    ensures in_range { InRange sizes.now row.new }
-    ensures there { places.place sizes.now row.new ≡ place }
-{
-    let mut rows = count;
-    let mut left = place;
-    for i in 0..sizes.len() {
-        rows /= u64::from(sizes[i]);
-        row[i] = (left / rows) as u32;
-        left %= rows;
-    }
 }
