@@ -1,5 +1,5 @@
 -- A numbered classical formula that stands for a well-sorted one fits.
-use Rattle.std.proofs.Common.{◌≡◌, ℕ, zero, suc, ◌<◌, ◌≤◌, Bool, true, false, List, [], ◌∷◌, ◌++◌, length, get_or, refl, sym, ap, ◌∙◌, subst, arith}
+use Rattle.std.proofs.Common.{◌≡◌, ℕ, zero, suc, ◌<◌, ◌≤◌, true, List, [], ◌∷◌, ◌++◌, length, refl, sym, ap, ◌∙◌, subst, arith}
 use Rattle.std.specs.Prelude.{◌&&◌, if◌then◌else◌, map, slice_get, Option, None, Some, is_some}
 use Rattle.std.specs.Option.{IsSome, option_map, is_none}
 use Rattle.std.specs.List.{list_all, All as Each}
@@ -17,18 +17,16 @@ use Rattle.nxf_tree.specs.Rows.{Shape, size_at, AllBelow, AreSizes}
 use Rattle.nxf_tree.specs.Problem.{classical_sort_at}
 use Rattle.nxf_tree.specs.Classical.{ClassicalModel}
 use Rattle.nxf_tree.specs.Sorting.{SymbolType, Language, Bound as Sorts, is_sort, fit, applied_sort, is_atom, have_one_sort, sort_of, table_type_among, classical_language}
-use Rattle.name_laws.proofs.Apart.{sort-true}
 use Rattle.name_laws.proofs.Spelling.{same_text-refl, true-false}
 use Rattle.name_laws.proofs.Types.{split}
 use Rattle.name_laws.proofs.SortedFormulas.{sort_of-App}
 use Rattle.fin_struct.specs.Places.{InRange}
-use Rattle.fin_struct.specs.Cells.{CellTable, bound_of, cell, table_at}
-use Rattle.fin_struct.specs.RowLists.{IsFilled}
+use Rattle.fin_struct.specs.Cells.{bound_of, cell, table_at}
 use Rattle.fin_struct.specs.StructureTables.{StructureTables, IsStructure, IsFor}
 use Rattle.classical_signature_laws.specs.ClassicalSignatures.{GivesBelow}
 use Rattle.structure_laws.specs.ClassicalNamed.{ReadsByPrintedName}
 use Rattle.structure_laws.proofs.ClassicalNames.{printed-names-law}
-use Rattle.fin_struct.proofs.CallerLemmas.{InRange-length, place_below}
+use Rattle.fin_struct.proofs.CallerLemmas.{InRange-length}
 use Rattle.numbered_definitions.specs.declared.node.NTerm.{NTerm, Bound, Row_of-NTerm, end_of-NTerm, more_of-NTerm}
 use Rattle.numbered_definitions.specs.declared.node.NTerm as numbered
 use Rattle.numbered_definitions.specs.declared.node.Node.{Node, Row_of-Node, end_of-Node, more_of-Node}
@@ -40,68 +38,16 @@ use Rattle.classical_evaluation_definitions.specs.ClassicalFitting.{IsRow, TermF
 use Rattle.classical_evaluation_definitions.specs.ClassicalSorting.{is_classical, IsGoodTable, IsWellFormedClassical}
 use Rattle.evaluation_laws.specs.EvaluationLaws.{inside_out}
 use Rattle.classical_evaluation_definitions.specs.ClassicalFaults.{model_of}
-use Rattle.evaluation_laws.proofs.Options.{mapped, joined}
+use Rattle.numbered_definitions.proofs.CallerLemmas.{mapped, joined}
+use Rattle.evaluation_laws.proofs.SortValues.{cell-below, InSorts, InSorts-length, InSorts-at, InSorts-push, is_sort-some, one-sort, no-gives, fit-chosen, all-more}
 use Rattle.evaluation_laws.proofs.Levels.{level-sort, inside_out-push, both-longer}
 use Rattle.classical_evaluation_laws.proofs.SatCases.{sorted_of_And, sorted_of_Or}
 use Rattle.classical_evaluation_laws.proofs.TableNames.{tables-different, not-actual, table-in, shape-at}
 use Rattle.classical_evaluation_laws.proofs.TableTypes.{table_type, sort-at, type-place}
 
--- a row in range has a cell below the table's bound
-cell-below : (table : CellTable) (row : List ℕ) → IsFilled table → InRange table.sizes row → cell table row < bound_of table.values
-cell-below table row f h = f.below _ (omega (arith, f.count, place_below table.sizes row h))
-
--- values of sorts, from the outside in
-module _ (S : ClassicalModel) where
-  abbrev pub InSorts : List SortName → List ℕ → Type 0
-  InSorts [] [] = Unit {0}
-  InSorts [] (a ∷ e) = ⊥
-  InSorts (s ∷ ss) [] = ⊥
-  InSorts (s ∷ ss) (a ∷ e) = (a < S.size s) × InSorts ss e
-
-  InSorts-length : (ss : List SortName) (e : List ℕ) → InSorts ss e → length ss ≡ length e
-  InSorts-length [] [] h = refl
-  InSorts-length [] (a ∷ e) h = absurd h
-  InSorts-length (s ∷ ss) [] h = absurd h
-  InSorts-length (s ∷ ss) (a ∷ e) h = ap suc (InSorts-length ss e h.1)
-
-  InSorts-at : (ss : List SortName) (e : List ℕ) (k : ℕ) (s : SortName) → InSorts ss e → slice_get ss k ≡ Some s → get_or e k 0 < S.size s
-  InSorts-at [] [] k s h e = absurd cc
-  InSorts-at [] (a ∷ rest) k s h e = absurd h
-  InSorts-at (r ∷ ss) [] k s h e = absurd h
-  InSorts-at (r ∷ ss) (a ∷ rest) zero s h e = let is : r ≡ s = cc in subst (λ q. a < S.size q) is h.0
-  InSorts-at (r ∷ ss) (a ∷ rest) (suc k) s h e = InSorts-at ss rest k s h.1 e
-
-  InSorts-push : (ss : List SortName) (e : List ℕ) (s : SortName) (a : ℕ) → InSorts ss e → a < S.size s → InSorts (ss ++ s ∷ []) (e ++ a ∷ [])
-  InSorts-push [] [] s a h l = (l, tt)
-  InSorts-push [] (b ∷ e) s a h l = absurd h
-  InSorts-push (r ∷ ss) [] s a h l = absurd h
-  InSorts-push (r ∷ ss) (b ∷ e) s a h l = (h.0, InSorts-push ss e s a h.1 l)
-
--- sorts of two sides
-record OneSort (o p : Option SortName) : Type 0 where
-  sort : SortName
-  left : o ≡ Some sort
-  right : p ≡ Some sort
-
-is_sort-some : (s : SortName) (o : Option SortName) → is_sort s o ≡ true → o ≡ Some s
-is_sort-some s None h = absurd (true-false (sym h))
-is_sort-some s (Some r) h = ap Some (sym (sort-true s r h))
-
-one-sort : (o p : Option SortName) → have_one_sort o p ≡ true → OneSort o p
-one-sort None p h = absurd (true-false (sym h))
-one-sort (Some s) p h = record { sort = s; left = refl; right = is_sort-some s p h }
-
 some-sort : (o : Option SortName) → is_some o ≡ true → (s : SortName) × (o ≡ Some s)
 some-sort None h = absurd (true-false (sym h))
 some-sort (Some s) h = (s, refl)
-
-no-gives : (f : ℕ → SortName) (gives : Option ℕ) → is_none (option_map f gives) ≡ true → gives ≡ None
-no-gives f None h = refl
-no-gives f (Some k) h = absurd (true-false (sym h))
-
-fit-chosen : {P : Type 0} (c : Bool) (o : Option SortName) (s : SortName) → (if c then o else None) ≡ Some s → (c ≡ true → o ≡ Some s → P) → P
-fit-chosen true o s h k = k refl h
-fit-chosen false o s h k = absurd cc
 
 same-some : (s r : SortName) → Some s ≡ Some r → s ≡ r
 same-some s r e = cc
@@ -111,10 +57,6 @@ more-sizes [] [] h = refl
 more-sizes [] (size ∷ sizes) h = absurd h
 more-sizes (x ∷ sorts) [] h = absurd h
 more-sizes (x ∷ sorts) (size ∷ sizes) h = ap suc (more-sizes sorts sizes h.1)
-
-all-more : {A : Type 0} (P : A → Type 0) (x : A) (xs : List A) → P x → Each P xs → Each P (x ∷ xs)
-all-more P x xs p q zero d l = p
-all-more P x xs p q (suc k) d l = q k d (omega (arith, l))
 
 module _ (csig : ClassicalSignature) (view : StructureTables) (wf : IsWellFormedClassical csig) (is : IsStructure view) (over : IsFor csig view) where
   abbrev S : ClassicalModel
@@ -168,7 +110,7 @@ module _ (csig : ClassicalSignature) (view : StructureTables) (wf : IsWellFormed
       let below : g < length csig.sorts = subst (GivesBelow (length csig.sorts)) gives (good-at t entry at).gives in
       omega (arith, cell-below (table_at view.tables t) row (is.filled t fits.table_in) fits.row_in, bound, size-of g below)
 
-  module _ (xs : List (List ℕ)) (ss : List SortName) (e : List ℕ) (long : length xs ≡ length ss) (values : InSorts S ss e) where
+  module _ (xs : List (List ℕ)) (ss : List SortName) (e : List ℕ) (long : length xs ≡ length ss) (values : InSorts S.size ss e) where
     abbrev B : Sorts
     B = inside_out xs ss
 
@@ -187,7 +129,7 @@ module _ (csig : ClassicalSignature) (view : StructureTables) (wf : IsWellFormed
           mapped Var (variable xs k) t h (λ x at is.
           let found = level-sort xs ss k x at long in
           let own : slice_get ss k ≡ Some s = sym found.0 ∙ ap (sort_of L B) is ∙ sort in
-          (omega (arith, found.1, InSorts-length S ss e values), InSorts-at S ss e k s values own))
+          (omega (arith, found.1, InSorts-length S.size ss e values), InSorts-at S.size ss e k s values own))
       term-fits (numbered.App' zero shape ns) t s h sort =
           joined App (Some actual_name) (named_row csig xs ns) t h (λ f ts at rest is.
           let same : actual_name ≡ f = cc in
@@ -256,7 +198,7 @@ module _ (csig : ClassicalSignature) (view : StructureTables) (wf : IsWellFormed
         (row.0, (predicate-there y entry place (no-gives (classical_sort_at csig.sorts) entry.gives parts.0), row-there y entry (map (node_value view e) ns) place row.1)))
 
   mutual
-    pub formula-fits : (n : Node) (xs : List (List ℕ)) (ss : List SortName) (e : List ℕ) (f : Formula) → named_form csig xs n ≡ Some f → is_classical L (inside_out xs ss) f ≡ true → length xs ≡ length ss → InSorts S ss e → Fits view e n
+    pub formula-fits : (n : Node) (xs : List (List ℕ)) (ss : List SortName) (e : List ℕ) (f : Formula) → named_form csig xs n ≡ Some f → is_classical L (inside_out xs ss) f ≡ true → length xs ≡ length ss → InSorts S.size ss e → Fits view e n
     formula-fits node.True xs ss e f h sorted long values = tt
     formula-fits node.False xs ss e f h sorted long values = tt
     formula-fits (node.Atom zero ns) xs ss e f h sorted long values =
@@ -289,11 +231,11 @@ module _ (csig : ClassicalSignature) (view : StructureTables) (wf : IsWellFormed
         let parts : (L.knows_sort s ≡ true) × (is_classical L ((x, s) ∷ inside_out xs ss) g ≡ true) = split _ _ (ap (is_classical L (inside_out xs ss)) (sym (Quant_is q x s g) ∙ same) ∙ sorted) in
         let body : is_classical L (inside_out (xs ++ x ∷ []) (ss ++ s ∷ [])) g ≡ true = ap (λ b. is_classical L b g) (inside_out-push xs ss x s long) ∙ parts.1 in (
           omega (arith, more-sizes csig.sorts view.sizes over.sorts, slice_get_within csig.sorts k s at),
-          λ a below. formula-fits n (xs ++ x ∷ []) (ss ++ s ∷ []) (e ++ a ∷ []) g rest body (both-longer xs ss x s long) (InSorts-push S ss e s a values (omega (arith, below, by_name.size k s at))),
+          λ a below. formula-fits n (xs ++ x ∷ []) (ss ++ s ∷ []) (e ++ a ∷ []) g rest body (both-longer xs ss x s long) (InSorts-push S.size ss e s a values (omega (arith, below, by_name.size k s at))),
         ))
     formula-fits (NodeModal m i n) xs ss e f h sorted long values = absurd cc
 
-    pub formulas-fit : {m : _} (ns : Row_of-Node m) (xs : List (List ℕ)) (ss : List SortName) (e : List ℕ) (fs : List Formula) → named_nodes csig xs ns ≡ Some fs → list_all (is_classical L (inside_out xs ss)) fs ≡ true → length xs ≡ length ss → InSorts S ss e → AllFit view e ns
+    pub formulas-fit : {m : _} (ns : Row_of-Node m) (xs : List (List ℕ)) (ss : List SortName) (e : List ℕ) (fs : List Formula) → named_nodes csig xs ns ≡ Some fs → list_all (is_classical L (inside_out xs ss)) fs ≡ true → length xs ≡ length ss → InSorts S.size ss e → AllFit view e ns
     formulas-fit end_of-Node xs ss e fs h sorted long values = tt
     formulas-fit (more_of-Node n ns) xs ss e fs h sorted long values =
         joined (λ t us. t ∷ us) (named_form csig xs n) (named_nodes csig xs ns) fs h (λ g gs at rest same.

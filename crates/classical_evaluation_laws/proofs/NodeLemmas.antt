@@ -27,7 +27,8 @@ use Rattle.classical_evaluation_definitions.specs.ClassicalMeaning.{function_in,
 use Rattle.classical_evaluation_definitions.specs.ClassicalFitting.{IsFunctionRow, IsPredicateRow, TermFits, TermsFit, Fits, AllFit}
 use Rattle.classical_evaluation_laws.proofs.TableNames.{shape-at}
 use Rattle.evaluation_laws.specs.EvaluationLaws.{inside_out}
-use Rattle.evaluation_laws.proofs.Options.{mapped, joined, some-size, no-size}
+use Rattle.numbered_definitions.proofs.CallerLemmas.{mapped, joined}
+use Rattle.evaluation_laws.proofs.Sizes.{some-size, no-size}
 use Rattle.evaluation_laws.proofs.Bounds.{all_within, any_within}
 use Rattle.evaluation_laws.proofs.Levels.{level-value, inside_out-push, both-longer}
 use Rattle.classical_evaluation_laws.proofs.SatCases.{value_of_App, sat_of_And, sat_of_Or}

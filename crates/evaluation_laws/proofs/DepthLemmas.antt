@@ -1,38 +1,20 @@
 -- A numbered term or formula is as deep as what it stands for.
-use Rattle.std.proofs.Common.{◌≡◌, ℕ, ◌+◌, List, [], ◌∷◌, ◌++◌, refl, sym, ap, ◌∙◌}
+use Rattle.std.proofs.Common.{◌≡◌, ℕ, ◌+◌, List, [], ◌∷◌, ◌++◌, sym, ap, ◌∙◌}
 use Rattle.std.specs.Prelude.{max, Some}
 use Rattle.nxf_tree.specs.declared.tree.Signature.{Signature}
-use Rattle.nxf_tree.specs.declared.tree.Term.{Term, Var, App, Row_of-Term, end_of-Term, more_of-Term}
-use Rattle.nxf_tree.specs.declared.tree.Term.TheBlock.{hidden-the_row-Term-0, items-the_row-Term, items_hidden-the_row-Term-0}
-use Rattle.nxf_tree.specs.declared.tree.Formula.{Formula, True, False, Atom, Same, Differ, Not, And, Or, Pair, Quant, Modal, Row_of-Formula, end_of-Formula, more_of-Formula}
-use Rattle.nxf_tree.specs.declared.tree.Formula.TheBlock.{hidden-the_row-Formula-1, items-the_row-Formula, items_hidden-the_row-Formula-1}
+use Rattle.nxf_tree.specs.declared.tree.Term.{Term, Var, App}
+use Rattle.nxf_tree.specs.declared.tree.Formula.{Formula, True, False, Atom, Same, Differ, Not, And, Or, Pair, Quant, Modal}
 use Rattle.nxf_tree.specs.Shapes.{Not_is, Pair_is, Quant_is, Modal_is}
-use Rattle.nxf_tree.specs.Depth.{list_depth, formula_depth, formulas_depth, formula_list_depth}
-use Rattle.nxf_tree.specs.Depth.{term_depth as tree_depth, terms_depth as tree_row_depth}
+use Rattle.nxf_tree.specs.Depth.{list_depth, formula_depth, formula_list_depth}
+use Rattle.nxf_tree.specs.Depth.{term_depth as tree_depth}
 use Rattle.numbered_definitions.specs.declared.node.NTerm.{NTerm, Bound, Row_of-NTerm, end_of-NTerm, more_of-NTerm}
 use Rattle.numbered_definitions.specs.declared.node.NTerm as numbered
 use Rattle.numbered_definitions.specs.declared.node.Node.{Node, Row_of-Node, end_of-Node, more_of-Node}
 use Rattle.numbered_definitions.specs.declared.node.Node as node
 use Rattle.numbered_definitions.specs.NamedForm.{NodeNot, NodePair, NodeQuant, NodeModal, variable, symbol_name, sort_name, index_name, named_term, named_row, named_terms, named_form, named_nodes}
-use Rattle.evaluation_laws.proofs.Options.{mapped, joined}
+use Rattle.numbered_definitions.proofs.CallerLemmas.{mapped, joined}
+use Rattle.evaluation_laws.proofs.TreeDepths.{tree_App, tree_And, tree_Or}
 use Rattle.kripke_evaluation_definitions.specs.NumberedDepth.{term_depth, row_depth, terms_depth, node_depth, node_row_depth}
-
-row-list : {m : _} (ts : Row_of-Term m) → tree_row_depth ts ≡ list_depth (items-the_row-Term _ ts)
-row-list end_of-Term = refl
-row-list (more_of-Term t ts) = ap (max (tree_depth t)) (row-list ts)
-
-tree_App : (f : List ℕ) (ts : List Term) → tree_depth (App f ts) ≡ list_depth ts + 1
-tree_App f ts = ap (λ n. n + 1) (row-list (hidden-the_row-Term-0 ts) ∙ ap list_depth (items_hidden-the_row-Term-0 ts))
-
-formulas-list : {m : _} (fs : Row_of-Formula m) → formulas_depth fs ≡ formula_list_depth (items-the_row-Formula _ fs)
-formulas-list end_of-Formula = refl
-formulas-list (more_of-Formula f fs) = ap (max (formula_depth f)) (formulas-list fs)
-
-tree_And : (fs : List Formula) → formula_depth (And fs) ≡ formula_list_depth fs + 1
-tree_And fs = ap (λ n. n + 1) (formulas-list (hidden-the_row-Formula-1 fs) ∙ ap formula_list_depth (items_hidden-the_row-Formula-1 fs))
-
-tree_Or : (fs : List Formula) → formula_depth (Or fs) ≡ formula_list_depth fs + 1
-tree_Or fs = ap (λ n. n + 1) (formulas-list (hidden-the_row-Formula-1 fs) ∙ ap formula_list_depth (items_hidden-the_row-Formula-1 fs))
 
 module _ (sig : Signature) where
   mutual

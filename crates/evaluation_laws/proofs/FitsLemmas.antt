@@ -1,5 +1,5 @@
 -- A numbered formula that stands for a well-sorted one fits.
-use Rattle.std.proofs.Common.{◌≡◌, ℕ, zero, suc, ◌<◌, ◌≤◌, Bool, true, false, List, [], ◌∷◌, ◌++◌, length, get_or, refl, sym, ap, ◌∙◌, subst, arith}
+use Rattle.std.proofs.Common.{◌≡◌, ℕ, ◌<◌, ◌≤◌, Bool, true, false, List, [], ◌∷◌, ◌++◌, length, get_or, refl, sym, ap, ◌∙◌, subst, arith}
 use Rattle.std.specs.Prelude.{◌&&◌, if◌then◌else◌, map, slice_get, Option, None, Some}
 use Rattle.std.specs.Option.{IsSome, option_map, is_none}
 use Rattle.std.specs.List.{list_all, All as Each}
@@ -20,18 +20,16 @@ use Rattle.nxf_tree.specs.Rows.{Shape, size_at}
 use Rattle.nxf_tree.specs.Kripke.{KripkeModel}
 use Rattle.nxf_tree.specs.Sorting.{Language, Bound as Sorts, is_sort, fit, applied_sort, is_atom, have_one_sort, sort_of, is_sorted, are_sorted, modal_language, in_range, gives_in_range}
 use Rattle.nxf_tree.specs.WellFormed.{IsWellFormed, has_sorts_in_range}
-use Rattle.name_laws.proofs.Apart.{sort-true}
 use Rattle.name_laws.proofs.Spelling.{true-false}
 use Rattle.name_laws.proofs.Types.{own_type, split}
 use Rattle.name_laws.proofs.SortedFormulas.{sort_of-App}
 use Rattle.name_laws.proofs.GoodSymbols.{parts-of-names}
 use Rattle.classical_syntax.proofs.CallerLemmas.{sort_at-place}
 use Rattle.fin_struct.specs.Places.{InRange}
-use Rattle.fin_struct.specs.Cells.{CellTable, bound_of, cell}
-use Rattle.fin_struct.specs.RowLists.{IsFilled}
+use Rattle.fin_struct.specs.Cells.{bound_of}
 use Rattle.fin_struct.specs.KripkeTables.{KripkeTables, IsKripke, IsKripkeFor, symbol_number, symbol_table, symbol_row, takes_world_in, value_in}
 use Rattle.structure_laws.specs.KripkeLaws.{HasPlaces, ReadsByName}
-use Rattle.fin_struct.proofs.CallerLemmas.{InRange-length, place_below, symbol_in}
+use Rattle.fin_struct.proofs.CallerLemmas.{InRange-length, symbol_in}
 use Rattle.structure_laws.proofs.KripkeNames.{names-law, places-law}
 use Rattle.numbered_definitions.specs.declared.node.NTerm.{NTerm, Bound, Row_of-NTerm, end_of-NTerm, more_of-NTerm}
 use Rattle.numbered_definitions.specs.declared.node.NTerm as numbered
@@ -42,54 +40,10 @@ use Rattle.kripke_evaluation_definitions.specs.NumberedMeaning.{node_value, node
 use Rattle.kripke_evaluation_definitions.specs.Fitting.{IsFunctionRow, IsPredicateRow, TermFits, TermsFit, Fits, AllFit}
 use Rattle.kripke_evaluation_definitions.specs.FileConditions.{model_of}
 use Rattle.evaluation_laws.specs.EvaluationLaws.{inside_out}
-use Rattle.evaluation_laws.proofs.Options.{mapped, joined}
+use Rattle.numbered_definitions.proofs.CallerLemmas.{mapped, joined}
+use Rattle.evaluation_laws.proofs.SortValues.{cell-below, InSorts, InSorts-length, InSorts-at, InSorts-push, is_sort-some, one-sort, no-gives, fit-chosen, all-more}
 use Rattle.evaluation_laws.proofs.Levels.{level-sort, inside_out-push, both-longer}
 use Rattle.evaluation_laws.proofs.SymbolTypes.{passes-at, sort-there, type-place}
-
--- a row in range has a cell below the table's bound
-pub cell-below : (table : CellTable) (row : List ℕ) → IsFilled table → InRange table.sizes row → cell table row < bound_of table.values
-cell-below table row f h = f.below _ (omega (arith, f.count, place_below table.sizes row h))
-
--- values of sorts, from the outside in
-module _ (K : KripkeModel) where
-  abbrev pub InSorts : List SortName → List ℕ → Type 0
-  InSorts [] [] = Unit {0}
-  InSorts [] (a ∷ e) = ⊥
-  InSorts (s ∷ ss) [] = ⊥
-  InSorts (s ∷ ss) (a ∷ e) = (a < K.size s) × InSorts ss e
-
-  pub InSorts-length : (ss : List SortName) (e : List ℕ) → InSorts ss e → length ss ≡ length e
-  InSorts-length [] [] h = refl
-  InSorts-length [] (a ∷ e) h = absurd h
-  InSorts-length (s ∷ ss) [] h = absurd h
-  InSorts-length (s ∷ ss) (a ∷ e) h = ap suc (InSorts-length ss e h.1)
-
-  pub InSorts-at : (ss : List SortName) (e : List ℕ) (k : ℕ) (s : SortName) → InSorts ss e → slice_get ss k ≡ Some s → get_or e k 0 < K.size s
-  InSorts-at [] [] k s h e = absurd cc
-  InSorts-at [] (a ∷ rest) k s h e = absurd h
-  InSorts-at (r ∷ ss) [] k s h e = absurd h
-  InSorts-at (r ∷ ss) (a ∷ rest) zero s h e = let is : r ≡ s = cc in subst (λ q. a < K.size q) is h.0
-  InSorts-at (r ∷ ss) (a ∷ rest) (suc k) s h e = InSorts-at ss rest k s h.1 e
-
-  pub InSorts-push : (ss : List SortName) (e : List ℕ) (s : SortName) (a : ℕ) → InSorts ss e → a < K.size s → InSorts (ss ++ s ∷ []) (e ++ a ∷ [])
-  InSorts-push [] [] s a h l = (l, tt)
-  InSorts-push [] (b ∷ e) s a h l = absurd h
-  InSorts-push (r ∷ ss) [] s a h l = absurd h
-  InSorts-push (r ∷ ss) (b ∷ e) s a h l = (h.0, InSorts-push ss e s a h.1 l)
-
--- sorts of two sides
-record OneSort (o p : Option SortName) : Type 0 where
-  sort : SortName
-  left : o ≡ Some sort
-  right : p ≡ Some sort
-
-is_sort-some : (s : SortName) (o : Option SortName) → is_sort s o ≡ true → o ≡ Some s
-is_sort-some s None h = absurd (true-false (sym h))
-is_sort-some s (Some r) h = ap Some (sym (sort-true s r h))
-
-one-sort : (o p : Option SortName) → have_one_sort o p ≡ true → OneSort o p
-one-sort None p h = absurd (true-false (sym h))
-one-sort (Some s) p h = record { sort = s; left = refl; right = is_sort-some s p h }
 
 -- a row with a world in front, or without
 in-front : (c d : Bool) (n w : ℕ) (sizes args : List ℕ) → d ≡ c → w < n → InRange sizes args → InRange (if c then n ∷ sizes else sizes) (if d then w ∷ args else args)
@@ -98,14 +52,6 @@ in-front c false n w sizes args e l h = subst (λ b. InRange (if b then n ∷ si
 
 predicate-front : (gives : Option ℕ) (d : Designation) → gives ≡ None → world_in_front gives d ≡ true
 predicate-front gives d e = ap (λ g. world_in_front g d) e
-
-no-gives : (f : ℕ → SortName) (gives : Option ℕ) → is_none (option_map f gives) ≡ true → gives ≡ None
-no-gives f None h = refl
-no-gives f (Some k) h = absurd (true-false (sym h))
-
-fit-chosen : {P : Type 0} (c : Bool) (o : Option SortName) (s : SortName) → (if c then o else None) ≡ Some s → (c ≡ true → o ≡ Some s → P) → P
-fit-chosen true o s h k = k refl h
-fit-chosen false o s h k = absurd cc
 
 module _ (L : Language) (b : Sorts) where
   sorted_of_row : {m : _} (fs : Row_of-Formula m) → are_sorted L b fs ≡ list_all (is_sorted L b) (items-the_row-Formula _ fs)
@@ -183,7 +129,7 @@ module _ (sig : Signature) (view : KripkeTables) (wf : IsWellFormed sig) (is : I
     few = few-args y entry args at h;
   }
 
-  module _ (xs : List (List ℕ)) (ss : List SortName) (e : List ℕ) (long : length xs ≡ length ss) (values : InSorts K ss e) (w : ℕ) (here : w < view.worlds) where
+  module _ (xs : List (List ℕ)) (ss : List SortName) (e : List ℕ) (long : length xs ≡ length ss) (values : InSorts K.size ss e) (w : ℕ) (here : w < view.worlds) where
     abbrev B : Sorts
     B = inside_out xs ss
 
@@ -193,7 +139,7 @@ module _ (sig : Signature) (view : KripkeTables) (wf : IsWellFormed sig) (is : I
           mapped Var (variable xs k) t h (λ x at is.
           let found = level-sort xs ss k x at long in
           let own : slice_get ss k ≡ Some s = sym found.0 ∙ ap (sort_of L B) is ∙ sort in
-          (omega (arith, found.1, InSorts-length K ss e values), InSorts-at K ss e k s values own))
+          (omega (arith, found.1, InSorts-length K.size ss e values), InSorts-at K.size ss e k s values own))
       term-fits (numbered.App' y shape ns) t s h sort =
           joined App (symbol_name sig y) (named_row sig xs ns) t h (λ f ts at rest is.
           mapped (λ (entry : SymbolEntry). entry.name) (slice_get sig.symbols y) f at (λ entry place name.
@@ -235,11 +181,7 @@ module _ (sig : Signature) (view : KripkeTables) (wf : IsWellFormed sig) (is : I
         let ranges = split (in_range sig.sorts a) _ range in
         let first = term-fits n t (sort_at sig.sorts a) at (is_sort-some (sort_at sig.sorts a) (sort_of L B t) parts.0) in
         let later = list-fits ns us args rest ranges.1 parts.1 in
-        (all-more n ns first.0 later.0, (omega (arith, first.1, size-of a ranges.0), later.1)))
-      where
-        all-more : (m : NTerm) (ms : List NTerm) → TermFits view w e m → Each (TermFits view w e) ms → Each (TermFits view w e) (m ∷ ms)
-        all-more m ms p q zero d l = p
-        all-more m ms p q (suc k) d l = q k d (omega (arith, l))
+        (all-more (TermFits view w e) n ns first.0 later.0, (omega (arith, first.1, size-of a ranges.0), later.1)))
 
     pub sides-fit : (a b : NTerm) (t u : Term) → named_term sig xs a ≡ Some t → named_term sig xs b ≡ Some u → have_one_sort (sort_of L B t) (sort_of L B u) ≡ true → TermFits view w e a × TermFits view w e b
     sides-fit a b t u p q h =
@@ -255,7 +197,7 @@ module _ (sig : Signature) (view : KripkeTables) (wf : IsWellFormed sig) (is : I
         (row.0, predicate-row y entry w (map (node_value view w e) ns) place (no-gives (sort_at sig.sorts) entry.gives parts.0) here row.1))
 
   mutual
-    pub formula-fits : (n : Node) (xs : List (List ℕ)) (ss : List SortName) (e : List ℕ) (w : ℕ) (f : Formula) → named_form sig xs n ≡ Some f → is_sorted L (inside_out xs ss) f ≡ true → length xs ≡ length ss → InSorts K ss e → w < view.worlds → Fits view w e n
+    pub formula-fits : (n : Node) (xs : List (List ℕ)) (ss : List SortName) (e : List ℕ) (w : ℕ) (f : Formula) → named_form sig xs n ≡ Some f → is_sorted L (inside_out xs ss) f ≡ true → length xs ≡ length ss → InSorts K.size ss e → w < view.worlds → Fits view w e n
     formula-fits node.True xs ss e w f h sorted long values here = tt
     formula-fits node.False xs ss e w f h sorted long values here = tt
     formula-fits (node.Atom y ns) xs ss e w f h sorted long values here =
@@ -287,7 +229,7 @@ module _ (sig : Signature) (view : KripkeTables) (wf : IsWellFormed sig) (is : I
         let body : is_sorted L (inside_out (xs ++ x ∷ []) (ss ++ s ∷ [])) g ≡ true = ap (λ b. is_sorted L b g) (inside_out-push xs ss x s long) ∙ parts.1 in
         let size : K.size s ≡ size_at view.sizes k = ap K.size (sym name) ∙ reads.size k entry place in (
           omega (arith, places.sorts, slice_get_within sig.sorts k entry place),
-          λ a below. formula-fits n (xs ++ x ∷ []) (ss ++ s ∷ []) (e ++ a ∷ []) w g rest body (both-longer xs ss x s long) (InSorts-push K ss e s a values (omega (arith, below, size))) here,
+          λ a below. formula-fits n (xs ++ x ∷ []) (ss ++ s ∷ []) (e ++ a ∷ []) w g rest body (both-longer xs ss x s long) (InSorts-push K.size ss e s a values (omega (arith, below, size))) here,
         )))
     formula-fits (NodeModal m k n) xs ss e w f h sorted long values here =
         joined (Modal m) (index_name sig k) (named_form sig xs n) f h (λ j g at rest same.
@@ -297,7 +239,7 @@ module _ (sig : Signature) (view : KripkeTables) (wf : IsWellFormed sig) (is : I
           λ v there. formula-fits n xs ss e v g rest parts.1 long values there,
         )))
 
-    pub formulas-fit : {m : _} (ns : Row_of-Node m) (xs : List (List ℕ)) (ss : List SortName) (e : List ℕ) (w : ℕ) (fs : List Formula) → named_nodes sig xs ns ≡ Some fs → list_all (is_sorted L (inside_out xs ss)) fs ≡ true → length xs ≡ length ss → InSorts K ss e → w < view.worlds → AllFit view w e ns
+    pub formulas-fit : {m : _} (ns : Row_of-Node m) (xs : List (List ℕ)) (ss : List SortName) (e : List ℕ) (w : ℕ) (fs : List Formula) → named_nodes sig xs ns ≡ Some fs → list_all (is_sorted L (inside_out xs ss)) fs ≡ true → length xs ≡ length ss → InSorts K.size ss e → w < view.worlds → AllFit view w e ns
     formulas-fit end_of-Node xs ss e w fs h sorted long values here = tt
     formulas-fit (more_of-Node n ns) xs ss e w fs h sorted long values here =
         joined (λ t us. t ∷ us) (named_form sig xs n) (named_nodes sig xs ns) fs h (λ g gs at rest same.

@@ -5,8 +5,10 @@ pub mod FirstLemmas
 pub mod FitsLemmas
 pub mod Levels
 pub mod NodeLemmas
-pub mod Options
 pub mod PartsLemmas
 pub mod SatCases
+pub mod Sizes
+pub mod SortValues
 pub mod SymbolTypes
+pub mod TreeDepths
 pub mod WholeLemmas

@@ -25,7 +25,8 @@ use Rattle.numbered_definitions.specs.NamedForm.{NodeNot, NodePair, NodeQuant, N
 use Rattle.kripke_evaluation_definitions.specs.NumberedMeaning.{node_value, node_values, node_sat, all_nodes, some_node}
 use Rattle.kripke_evaluation_definitions.specs.Fitting.{IsFunctionRow, IsPredicateRow, TermFits, TermsFit, Fits, AllFit}
 use Rattle.evaluation_laws.specs.EvaluationLaws.{inside_out}
-use Rattle.evaluation_laws.proofs.Options.{mapped, joined, some-size, no-size}
+use Rattle.numbered_definitions.proofs.CallerLemmas.{mapped, joined}
+use Rattle.evaluation_laws.proofs.Sizes.{some-size, no-size}
 use Rattle.evaluation_laws.proofs.Bounds.{all_within, any_within}
 use Rattle.evaluation_laws.proofs.Levels.{level-value, inside_out-push, both-longer}
 use Rattle.evaluation_laws.proofs.SatCases.{value_of_App, sat_of_And, sat_of_Or}

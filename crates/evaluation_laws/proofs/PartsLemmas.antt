@@ -19,7 +19,7 @@ use Rattle.fin_struct.specs.declared.condition.Condition.{Condition}
 use Rattle.numbered_definitions.specs.declared.node.Numbered.{Numbered}
 use Rattle.numbered_definitions.specs.NamedForm.{FormulaStatement, named_form, named, all_named, formulas_from, formulas_of, IsSortedFormula}
 use Rattle.kripke_evaluation_definitions.specs.FileConditions.{model_of}
-use Rattle.evaluation_laws.proofs.Options.{mapped, joined}
+use Rattle.numbered_definitions.proofs.CallerLemmas.{mapped, joined}
 use Rattle.evaluation_laws.proofs.Evaluation.{evaluates}
 use Rattle.kripke_evaluation_definitions.specs.FileConditions.{statement_at, meets_where_there, meets, and_premise, premises_from, and_conjecture, conjectures_from, premises_of, conjectures_of, condition_of, node_meets}
 use Rattle.evaluation_laws.specs.FaultLaws.{PartsLaw}

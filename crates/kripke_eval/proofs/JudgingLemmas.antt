@@ -29,7 +29,7 @@ use Rattle.numbered_definitions.specs.declared.node.Numbered.{Numbered}
 use Rattle.numbered_definitions.specs.NamedForm.{FormulaStatement, named_form, named, all_named, formulas_from, formulas_of, IsSortedFormula}
 use Rattle.kripke_evaluation_definitions.specs.FileConditions.{model_of, statement_at, meets_where_there, meets_by_file, and_premise, premises_from, and_conjecture, conjectures_from, part_conditions, condition_of, node_meets}
 use Rattle.evaluation_laws.proofs.Evaluation.{evaluates}
-use Rattle.evaluation_laws.proofs.Options.{mapped, joined}
+use Rattle.numbered_definitions.proofs.CallerLemmas.{mapped, joined}
 use Rattle.kripke_eval.specs.steps.Judging.{passes, first_unmet}
 
 -- the conditions of one kind

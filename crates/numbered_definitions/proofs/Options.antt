@@ -1,7 +1,7 @@
 -- Values that are made of parts, where they are there.
-use Rattle.std.proofs.Common.{◌≡◌, ℕ, refl, sym, ◌∙◌, subst}
+use Rattle.std.proofs.Common.{◌≡◌, refl}
 use Rattle.std.specs.Prelude.{Option, None, Some}
-use Rattle.std.specs.Option.{IsSome, option_map}
+use Rattle.std.specs.Option.{option_map}
 use Rattle.numbered_definitions.specs.NamedForm.{both}
 
 module _ {A B P : Type 0} where
@@ -14,11 +14,3 @@ module _ {A B C P : Type 0} where
   joined f None b z h k = absurd cc
   joined f (Some x) None z h k = absurd cc
   joined f (Some x) (Some y) z h k = k x y refl refl cc
-
-pub some-size : (f : ℕ → ℕ) (o values : Option ℕ) → values ≡ option_map f o → IsSome values → IsSome o
-some-size f None values e h = absurd (let is : IsSome {T = ℕ} None = subst (λ (o : Option ℕ). IsSome o) e h in cc)
-some-size f (Some n) values e h = refl
-
-pub no-size : (f : ℕ → ℕ) (o values : Option ℕ) → values ≡ option_map f o → values ≡ None → o ≡ None
-no-size f None values e h = refl
-no-size f (Some n) values e h = absurd (let is : ◌≡◌ {A = Option ℕ} (Some (f n)) None = sym e ∙ h in cc)
