@@ -11,7 +11,7 @@ use Rattle.nxf_tree.specs.declared.tree.Statement.{Statement}
 use Rattle.name_laws.proofs.Spelling.{never}
 use Rattle.numbered_definitions.specs.declared.node.Numbered.{Numbered}
 use Rattle.numbered_definitions.specs.NamedForm.{FormulaStatement, named, named_form, all_named}
-use Rattle.nxf_translate.proofs.CallerLemmas.{mapped, joined}
+use Rattle.numbered_definitions.proofs.CallerLemmas.{mapped, joined}
 use Rattle.nxf_embed.specs.steps.Chosen.{part_statement, chosen}
 
 pub differ : (a b : ℕ) → (a ≡ b → ⊥) → nat_eq a b ≡ false

@@ -20,7 +20,7 @@ use Rattle.name_laws.proofs.SortedFormulas.{both as both-true}
 use Rattle.name_laws.proofs.Types.{split}
 use Rattle.numbered_definitions.specs.declared.node.Numbered.{Numbered}
 use Rattle.numbered_definitions.specs.NamedForm.{FormulaStatement, IsSortedFormula, named, all_named, formulas_from, formulas_of}
-use Rattle.nxf_translate.proofs.CallerLemmas.{joined}
+use Rattle.numbered_definitions.proofs.CallerLemmas.{joined}
 use Rattle.nxf_embed.specs.steps.Chosen.{part_statement, chosen}
 use Rattle.nxf_embed.proofs.Choosing.{not-chosen, is-chosen, form-is}
 

@@ -1,3 +1,2 @@
 -- What other crates cite of the lemmas of this one.
-pub use Rattle.nxf_translate.proofs.Options.{joined, mapped}
 pub use Rattle.nxf_translate.proofs.TermCases.{named-at}

@@ -23,7 +23,7 @@ use Rattle.numbered_definitions.specs.declared.node.Node as node
 use Rattle.numbered_definitions.specs.NamedForm.{NodeNot, NodePair, NodeQuant, NodeModal, both, symbol_name, sort_name, index_name, named_term, named_terms, named_form, named_forms}
 use Rattle.classical_syntax.proofs.CallerLemmas.{is_constant-place}
 use Rattle.nxf_translate.specs.steps.Forms.{HasTerm, HasTerms, HasForm, HasForms, IsTerm, IsForm, AreForms}
-use Rattle.nxf_translate.proofs.Options.{mapped, joined}
+use Rattle.numbered_definitions.proofs.CallerLemmas.{mapped, joined}
 use Rattle.nxf_translate.proofs.Rows.{of_And, of_Or}
 use Rattle.nxf_translate.proofs.TermCases.{named-place, named-at}
 use denote.Hole.Carrier.{hidden}

@@ -1,6 +1,6 @@
 pub mod CallerLemmas
 pub mod FormCases
+pub mod Made
 pub mod Members
-pub mod Options
 pub mod Rows
 pub mod TermCases

@@ -17,7 +17,7 @@ use Rattle.numbered_definitions.specs.declared.node.NTerm as numbered
 use Rattle.numbered_definitions.specs.NamedForm.{both, variable, symbol_name, named_term, named_terms}
 use Rattle.classical_syntax.proofs.CallerLemmas.{is_flexible-place}
 use Rattle.nxf_translate.specs.steps.Forms.{HasTerm, HasTerms, IsTerm}
-use Rattle.nxf_translate.proofs.Options.{mapped, joined}
+use Rattle.numbered_definitions.proofs.CallerLemmas.{mapped, joined}
 use Rattle.nxf_translate.proofs.Rows.{of_App}
 
 row_is : {m : _} (sig : Signature) (w : Term) (ts : Row_of-Term m) → st_terms sig w ts ≡ map (st_term sig w) (items-the_row-Term _ ts)

@@ -13,7 +13,7 @@ use Rattle.formula_cells.specs.Stored.{IsPart, AreParts, node_at, term_at}
 use Rattle.formula_cells.proofs.CallerLemmas.{good_read, node_read, part_within}
 use Rattle.nxf_translate.specs.steps.Forms.{HasForm, IsForm}
 use Rattle.nxf_translate.specs.steps.Place.{term_of}
-use Rattle.nxf_translate.proofs.Options.{made}
+use Rattle.nxf_translate.proofs.Made.{made}
 use Rattle.nxf_translate.proofs.Members.{form-member}
 use Rattle.nxf_translate.proofs.FormCases.{and-parts, or-parts, pair-right, quant-sort, quant-body, not-is, and-is, or-is, pair-is, quant-is, modal-is, forms-step}
 use Rattle.nxf_translate.proofs.formulas.+translate.Goals as goal

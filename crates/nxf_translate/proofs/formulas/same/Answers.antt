@@ -1,6 +1,6 @@
 use Rattle.formula_cells.specs.Stored.{term_at}
 use Rattle.nxf_translate.specs.steps.Place.{term_of}
-use Rattle.nxf_translate.proofs.Options.{made}
+use Rattle.nxf_translate.proofs.Made.{made}
 use Rattle.nxf_translate.proofs.FormCases.{same-left, same-right, same-is}
 use Rattle.nxf_translate.proofs.formulas.same.Goals as goal
 
