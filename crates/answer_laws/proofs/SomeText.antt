@@ -1,5 +1,5 @@
 -- Each list of tokens is the text of a structure within the limits, or it has a refusal.
-use Rattle.std.proofs.Common.{◌≡◌, ℕ, zero, suc, ◌+◌, ◌<◌, ◌≤◌, Bool, true, false, cond, List, [], ◌∷◌, ◌++◌, map, length, refl, sym, ap, subst, ◌∙◌, append_assoc, append-nil, length-append, arith}
+use Rattle.std.proofs.Common.{◌≡◌, ℕ, zero, suc, ◌+◌, ◌<◌, ◌≤◌, List, [], ◌∷◌, ◌++◌, map, length, refl, sym, ap, subst, ◌∙◌, append_assoc, append-nil, length-append, arith}
 use Rattle.std.specs.Prelude.{◌⊎◌, ◌≢◌, codes}
 use mathlib.Core.Logic.{inl, inr}
 use Rattle.std.proofs.lemmas.Bool.{cases_lt}
@@ -18,7 +18,7 @@ use Rattle.plain_tokens.specs.PlainTokens.{Plain}
 use Rattle.plain_tokens.specs.Marks.{Mark, Sign, Dollar, Blank, Line, plains, mark_plains}
 use Rattle.kripke_text_definitions.specs.declared.error.KripkeTextError.{KripkeTextError}
 use Rattle.kripke_text_definitions.specs.declared.error.KripkeTextError.TheVariants.{Form, TooManyWorlds, TooBig, Memory}
-use Rattle.kripke_text_definitions.specs.TokenStatements.{is_stop, in_first, statements}
+use Rattle.kripke_text_definitions.specs.TokenStatements.{statements}
 use Rattle.kripke_text_definitions.specs.KripkeText as text
 use Rattle.kripke_text_definitions.specs.KripkeText.{Label}
 use Rattle.kripke_text_definitions.specs.Reading.{AreFew, Explains, HasHead, IsFormFault, head_length}
@@ -26,6 +26,7 @@ use Rattle.kripke_text_laws.specs.steps.FirstParts.{AreFirstSizes, AreFirst, IsN
 use Rattle.kripke_text_laws.proofs.Complete.{structure_of, complete_tables, all_room}
 use Rattle.kripke_text_laws.proofs.Faults.{IsMissing, read_so_far, fault_worlds, fault_local, fault_domain, fault_table}
 use Rattle.kripke_text_laws.proofs.Heads.{numbered, counted}
+use Rattle.kripke_text_laws.proofs.Joins.{joined_back}
 use Rattle.kripke_text_laws.proofs.Refusals.{same_heads}
 use Rattle.kripke_text_laws.proofs.Splits.{joined}
 use Rattle.kripke_text_laws.proofs.Whole.{tokens_joined, tables_are, tables_count}
@@ -162,19 +163,6 @@ all_tables [] [] h k = tt
 all_tables [] (table ∷ given) h k = absurd h
 all_tables (shape ∷ shapes) [] h k = absurd (omega arith)
 all_tables (shape ∷ shapes) (table ∷ given) h k = (h.0, all_tables shapes given h.1 (omega arith))
-
-joined_first : (p : Plain) (ss : List (List Plain)) → joined (in_first p ss) ≡ p ∷ joined ss
-joined_first p [] = refl
-joined_first p (s ∷ ss) = refl
-
-joined_by : (p : Plain) (ss : List (List Plain)) (b : Bool) → joined (cond b ((p ∷ []) ∷ ss) (in_first p ss)) ≡ p ∷ joined ss
-joined_by p ss true = refl
-joined_by p ss false = joined_first p ss
-
--- statements make up their tokens
-joined_back : (ps : List Plain) → joined (statements ps) ≡ ps
-joined_back [] = refl
-joined_back (p ∷ ps) = joined_by p (statements ps) (is_stop p) ∙ ap (λ (rest : List Plain). p ∷ rest) (joined_back ps)
 
 -- ---- the tables, behind a head within the limits
 

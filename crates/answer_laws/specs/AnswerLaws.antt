@@ -12,9 +12,11 @@ abbrev pub OneReadingLaw : Type 0
 OneReadingLaw = (sig : Signature) (name bytes : List ℕ) → HasSortsInRange sig → ExactlyOne (ReadsStructure sig name bytes)
 
 abbrev pub OneCheckLaw : Type 0
-OneCheckLaw = (outcome : Result File GatherError) (name : List ℕ) (loaded : Result (List ℕ) GatherError) → ExactlyOne (Checks outcome name loaded)
+OneCheckLaw =
+    (outcome : Result File GatherError) (name : List ℕ) (loaded : Result (List ℕ) GatherError) → ExactlyOne (Checks outcome name loaded)
 
 -- the files lead to a line exactly where the second is the text of a countermodel
 abbrev pub CountermodelLaw : Type 0
 CountermodelLaw =
-    (file : File) (name bytes line : List ℕ) → Checks (Ok file) name (Ok bytes) (Ok line) ↔ ((line ≡ countermodel_line) × IsCountermodelText file bytes)
+    (file : File) (name bytes line : List ℕ)
+    → Checks (Ok file) name (Ok bytes) (Ok line) ↔ ((line ≡ countermodel_line) × IsCountermodelText file bytes)
