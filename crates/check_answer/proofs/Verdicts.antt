@@ -1,6 +1,6 @@
 -- From what the parts of `check` promise to its answer.
-use Rattle.std.proofs.Common.{◌≡◌, ◌≤◌, ℕ, List, Some, Result, Ok, Err, refl, sym, ap, subst, ◌∙◌, arith}
-use Rattle.std.specs.Prelude.{◌⊎◌, min, IfErr, IsErrAnd}
+use Rattle.std.proofs.Common.{◌≡◌, ℕ, List, Some, Result, Ok, Err, refl, sym, ap, subst}
+use Rattle.std.specs.Prelude.{◌⊎◌, IfErr, IsErrAnd}
 use mathlib.Core.Logic.{inl, inr}
 use Rattle.nxf_base.specs.declared.status.Status.{Status}
 use Rattle.nxf_base.specs.declared.status.Status.TheVariants as status
@@ -8,18 +8,16 @@ use Rattle.tptp_lex.specs.declared.token.Token.{Token}
 use Rattle.tptp_lex.specs.Lexing.{Lexes}
 use Rattle.nxf_tree.specs.declared.tree.Signature.{Signature}
 use Rattle.nxf_tree.specs.declared.tree.PartEntry.{PartEntry}
-use Rattle.nxf_tree.specs.Rows.{Shape}
 use Rattle.nxf_tree.specs.Structures.{KripkeStructure}
 use Rattle.fin_struct.specs.declared.condition.Condition.{Condition}
-use Rattle.fin_struct.specs.Limits.{cells_in}
-use Rattle.fin_struct.specs.KripkeTables.{KripkeTables, IsKripke, IsKripkeFor, kripke_structure}
-use Rattle.fin_struct.proofs.CallerLemmas.{classical-shapes}
+use Rattle.fin_struct.specs.KripkeTables.{KripkeTables, kripke_structure}
 use Rattle.structure_laws.proofs.KripkeLists.{kripke-law}
 use Rattle.plain_tokens.specs.PlainTokens.{plains_of}
 use Rattle.formula_cells.specs.Checked.{CheckedFile}
 use Rattle.kripke_text_definitions.specs.declared.error.KripkeTextError.{KripkeTextError}
 use Rattle.kripke_text_definitions.specs.declared.error.KripkeTextError.TheVariants.{Form, TooManyWorlds, TooBig, Memory}
-use Rattle.kripke_text_definitions.specs.Reading.{AreFew, Explains}
+use Rattle.kripke_text_definitions.specs.Reading.{Explains}
+use Rattle.kripke_text_laws.proofs.Limits.{few_of}
 use Rattle.kripke_text.specs.Texts.{IsTextOf}
 use Rattle.answer_definitions.specs.Answer.{OrMemory}
 use Rattle.answer_definitions.specs.Check.{ChecksText}
@@ -34,18 +32,6 @@ handed_on (Ok x) P e is h = absurd is
 handed_on (Err x) P e is h = subst P (sym is) h
 
 -- ---- the bytes
-
--- a structure is within the limits
-few_of : (sig : Signature) (view : KripkeTables) → IsKripke view → IsKripkeFor sig view → AreFew sig view.worlds view.sizes
-few_of sig view is for_sig =
-    let shapes = for_sig.shapes ∙ sym (classical-shapes sig view.worlds view.sizes) in
-    record {
-      few_worlds = is.within.few_worlds;
-      few_cells = small _ (subst (λ (c : List Shape). cells_in c ≤ 4194304) shapes is.within.few_cells);
-    }
-  where
-    small : (n : ℕ) → n ≤ 4194304 → min n 18446744073709551615 ≤ 4194304
-    small n h = omega arith
 
 module _ (sig : Signature) (name bytes : List ℕ) where
   pub not_lexed_as : (s : Status) → OrMemory (IsLexRefusal name bytes) s → OrMemory (λ s. ReadsStructure sig name bytes (Err s)) s
