@@ -1,14 +1,10 @@
 //! Whether a Kripke structure is a countermodel of a file.
 #![tactic(auto)]
 
-ghost use Rattle.std.specs.Prelude.{◌≡◌, ◌↔◌, ◌<◌, None};
-ghost use Rattle.nxf_tree.specs.declared.tree.Signature.{Signature};
-ghost use Rattle.nxf_tree.specs.declared.tree.File.{File};
-ghost use Rattle.nxf_tree.specs.Countermodels.{IsKripkeCountermodel};
-ghost use Rattle.fin_struct.specs.FirstFault.{IsFirstFailing};
-ghost use Rattle.fin_struct.specs.KripkeTables.{IsKripkeFor, kripke_structure};
+ghost use Rattle.std.specs.Prelude.{◌≡◌, ◌<◌};
+ghost use Rattle.fin_struct.specs.KripkeTables.{IsKripkeFor};
 ghost use Rattle.formula_cells.specs.ReadAs.{OfItsFile};
-ghost use Rattle.kripke_evaluation_definitions.specs.FileConditions.{meets_by_file, all_conditions};
+ghost use Rattle.kripke_check.specs.FirstFaults.{IsFirstFault, TellsCountermodel};
 ghost use Rattle.kripke_eval.specs.Evaluating.{HasRoomForAll};
 
 use fin_struct::{Condition, Kripke};
@@ -30,10 +26,8 @@ pub fn first_fault<L: Ledger>(
 ) -> Option<Condition>
     requires over { IsKripkeFor checked.now.signature kripke.now }
     requires room { HasRoomForAll eval.old checked.now }
-    ensures first { let first = λ (sig : Signature) (file : File). IsFirstFailing (meets_by_file sig file kripke.now) (all_conditions sig file) result in
-        OfItsFile checked.now parts.now first }
-    ensures none { let countermodel = λ (sig : Signature) (file : File). IsKripkeCountermodel sig file (kripke_structure kripke.now) in
-        OfItsFile checked.now parts.now (λ sig file. (result ≡ None) ↔ countermodel sig file) }
+    ensures first { OfItsFile checked.now parts.now (IsFirstFault kripke.now result) }
+    ensures none { OfItsFile checked.now parts.now (TellsCountermodel kripke.now result) }
     ensures kept { eval.new ≡ eval.old }
 {
     let worlds = kripke.worlds();
