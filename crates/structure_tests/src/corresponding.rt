@@ -2,7 +2,7 @@
 ghost use Rattle.std.specs.Prelude.{◌<◌};
 ghost use Rattle.fin_struct.specs.KripkeTables.{IsKripkeFor};
 
-use crate::structures::{numbers, small};
+use crate::structures::{small, small_structure};
 use fin_struct::{Kripke, Rows};
 use kripke_build::{lift, lower};
 use nxf_tree::Signature;
@@ -23,8 +23,7 @@ fn relate(over: &Signature, kripke: &mut Kripke, from: u32, to: u32)
 fn there_and_back(rt: HostRuntime) -> Result<(), Fail> {
     let alloc = rt.alloc();
     let signature = small(alloc)?;
-    let sizes = numbers(alloc, &[2, 2, 3])?;
-    let mut kripke = Kripke::new(alloc, &signature, &sizes)?;
+    let mut kripke = small_structure(alloc, &signature)?;
     relate(&signature, &mut kripke, 0, 1);
     let structure = lower(alloc, &signature, &kripke)?;
     assert_eq!(rt; (structure.size(0), structure.size(2)), (2, 3));

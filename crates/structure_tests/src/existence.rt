@@ -51,7 +51,7 @@ fn axioms_by_regime(rt: HostRuntime) -> Result<(), Fail> {
 }
 
 // Lets an element exist at a world, if it is one of the first sort, which isn't constant.
-fn put(kripke: &mut Kripke, world: u32, element: u32)
+pub fn put(kripke: &mut Kripke, world: u32, element: u32)
     requires sort { 0 < length kripke.old.existence }
     requires varying { IsSome (existence_number kripke.old 0) }
     ensures same { (sig : Signature) → IsKripkeFor sig kripke.old → IsKripkeFor sig kripke.new }

@@ -1,8 +1,10 @@
 // Structures of both kinds: their cells, what is written and read, and their limits.
-ghost use Rattle.std.specs.Prelude.{◌≡◌, ◌<◌, ◌∷◌, [], length, replicate, None, Some, IsSome, codes, IfOk};
+ghost use Rattle.std.specs.Prelude.{◌≡◌, ◌<◌, ◌∷◌, [], length, replicate, None, Some, IsSome, IfOk};
 ghost use Rattle.fin_struct.specs.Cells.{bound_of};
-ghost use Rattle.fin_struct.specs.KripkeTables.{symbol_table, symbol_row};
+ghost use Rattle.nxf_tree.specs.WellFormed.{IsWellFormed};
+ghost use Rattle.fin_struct.specs.KripkeTables.{IsKripkeFor, blank_kripke, symbol_table, symbol_row};
 ghost use Rattle.fin_struct.specs.Places.{InRange};
+ghost use Rattle.structure_tests.specs.steps.Signatures.{local_symbol, small_signature};
 
 use fin_struct::{Grid, GridShape, Kripke, ShapeError, Structure, cells, classical};
 use nxf_base::{List, Memory, Text};
@@ -95,7 +97,7 @@ fn symbol(
     gives: Option<u32>,
     designation: Designation,
 ) -> Result<SymbolEntry, Memory>
-    ensures { IfOk result (λ made. made ≡ record { name = name.now; args = args.now; gives = gives; designation = designation; locality = Locality.Local }) }
+    ensures { IfOk result (λ made. made ≡ local_symbol name.now args.now gives designation) }
 {
     Ok(SymbolEntry {
         name: Text::from_bytes(alloc, name)?,
@@ -109,7 +111,8 @@ fn symbol(
 // A signature with `$i`, whose domains vary, and a constant sort; a predicate on both, a rigid function from the one to
 // the other, a flexible constant, and an index.
 pub fn small(alloc: Global) -> Result<Signature, Memory>
-    ensures { IfOk result (λ made. made ≡ record { sorts = record { name = SortName.Individual; regime = Regime.Varying } ∷ record { name = SortName.User (codes "s"); regime = Regime.Constant } ∷ []; symbols = record { name = codes "p"; args = 0 ∷ 1 ∷ []; gives = None; designation = Designation.Flexible; locality = Locality.Local } ∷ record { name = codes "f"; args = 0 ∷ []; gives = Some 1; designation = Designation.Rigid; locality = Locality.Local } ∷ record { name = codes "c"; args = []; gives = Some 0; designation = Designation.Flexible; locality = Locality.Local } ∷ []; indexes = record { name = IndexName.Plain; schemes = [] } ∷ [] }) }
+    ensures made { IfOk result (λ made. made ≡ small_signature) }
+    ensures formed { IfOk result IsWellFormed }
 {
     let mut sorts = List::new(alloc);
     sorts.push(SortEntry {
@@ -136,12 +139,21 @@ pub fn small(alloc: Global) -> Result<Signature, Memory>
     })
 }
 
+// Over that signature, two worlds, two elements of `$i` and three of `s`, with nothing written.
+pub fn small_structure(alloc: Global, over: &Signature) -> Result<Kripke, Fail>
+    requires small { over.now ≡ small_signature }
+    requires formed { IsWellFormed over.now }
+    ensures made { IfOk result (λ made. made ≡ blank_kripke small_signature 2 (2 ∷ 3 ∷ [])) }
+    ensures over { IfOk result (λ made. IsKripkeFor over.now made) }
+{
+    let sizes = numbers(alloc, &[2, 2, 3])?;
+    Ok(Kripke::new(alloc, over, &sizes)?)
+}
+
 #[test]
 fn pairs_of_worlds(rt: HostRuntime) -> Result<(), Fail> {
     let alloc = rt.alloc();
-    let signature = small(alloc)?;
-    let sizes = numbers(alloc, &[2, 2, 3])?;
-    let mut kripke = Kripke::new(alloc, &signature, &sizes)?;
+    let mut kripke = small_structure(alloc, &small(alloc)?)?;
     assert_eq!(rt; (kripke.worlds(), kripke.actual()), (2, 0));
     kripke.set_related(0, 0, 1, true);
     assert!(rt; kripke.related(0, 0, 1));
@@ -152,9 +164,7 @@ fn pairs_of_worlds(rt: HostRuntime) -> Result<(), Fail> {
 #[test]
 fn elements_at_worlds(rt: HostRuntime) -> Result<(), Fail> {
     let alloc = rt.alloc();
-    let signature = small(alloc)?;
-    let sizes = numbers(alloc, &[2, 2, 3])?;
-    let mut kripke = Kripke::new(alloc, &signature, &sizes)?;
+    let mut kripke = small_structure(alloc, &small(alloc)?)?;
     assert!(rt; kripke.exists(1, 1, 2));
     kripke.set_exists(0, 1, 0, true);
     assert!(rt; kripke.exists(0, 1, 0));
@@ -186,9 +196,7 @@ fn holds_after(kripke: &mut Kripke, symbol: u32, world: u32, args: &[u32], yes: 
 #[test]
 fn values_at_worlds(rt: HostRuntime) -> Result<(), Fail> {
     let alloc = rt.alloc();
-    let signature = small(alloc)?;
-    let sizes = numbers(alloc, &[2, 2, 3])?;
-    let mut kripke = Kripke::new(alloc, &signature, &sizes)?;
+    let mut kripke = small_structure(alloc, &small(alloc)?)?;
     assert_eq!(rt; kripke.value(1, 7, &[1]), 0);
     assert_eq!(rt; kripke.value(2, 1, &[]), 0);
     assert_eq!(rt; value_after(&mut kripke, 1, 7, &[1], 2), 2);
@@ -198,9 +206,7 @@ fn values_at_worlds(rt: HostRuntime) -> Result<(), Fail> {
 #[test]
 fn rows_at_worlds(rt: HostRuntime) -> Result<(), Fail> {
     let alloc = rt.alloc();
-    let signature = small(alloc)?;
-    let sizes = numbers(alloc, &[2, 2, 3])?;
-    let mut kripke = Kripke::new(alloc, &signature, &sizes)?;
+    let mut kripke = small_structure(alloc, &small(alloc)?)?;
     assert_eq!(rt; (kripke.size(0), kripke.size(1)), (2, 3));
     assert!(rt; !kripke.holds(0, 1, &[1, 2]));
     kripke.set_actual(1);

@@ -3,7 +3,9 @@ ghost use Rattle.std.specs.Prelude.{◌≡◌, ◌<◌, [], ◌∷◌, length, I
 ghost use Rattle.nxf_tree.specs.WellFormed.{AreOrdered};
 ghost use Rattle.nxf_tree.specs.declared.tree.Signature.{Signature};
 ghost use Rattle.fin_struct.specs.KripkeTables.{IsKripkeFor, existence_number};
+ghost use Rattle.structure_tests.specs.steps.Signatures.{local_symbol};
 
+use crate::existence::put;
 use fin_struct::{Condition, Kripke};
 use nxf_base::{List, Memory, Text};
 use nxf_tree::{
@@ -116,19 +118,6 @@ fn let_exist(kripke: &mut Kripke)
     }
 }
 
-// Lets an element exist at a world, if it is one of the first sort, which isn't constant.
-fn put(kripke: &mut Kripke, world: u32, element: u32)
-    requires sort { 0 < length kripke.old.existence }
-    requires varying { IsSome (existence_number kripke.old 0) }
-    ensures same { (sig : Signature) → IsKripkeFor sig kripke.old → IsKripkeFor sig kripke.new }
-    ensures existence { kripke.new.existence ≡ kripke.old.existence }
-{
-    if world >= kripke.worlds() || element >= kripke.size(0) {
-        return;
-    }
-    kripke.set_exists(0, world, element, true);
-}
-
 #[test]
 fn thousand_worlds_of_a_thousand(rt: HostRuntime) -> Result<(), Fail> {
     let alloc = rt.alloc();
@@ -149,7 +138,7 @@ fn thousand_worlds_of_a_thousand(rt: HostRuntime) -> Result<(), Fail> {
 
 // A local function `f` of two arguments.
 fn function(alloc: Global) -> Result<List<SymbolEntry>, Memory>
-    ensures { IfOk result (λ made. made ≡ record { name = codes "f"; args = 0 ∷ 0 ∷ []; gives = Some 0; designation = Designation.Rigid; locality = Locality.Local } ∷ []) }
+    ensures { IfOk result (λ made. made ≡ local_symbol (codes "f") (0 ∷ 0 ∷ []) (Some 0) Designation.Rigid ∷ []) }
 {
     let mut args = List::new(alloc);
     args.push(0)?;

@@ -1,9 +1,9 @@
 // The conditions on local functions over one and two worlds.
-ghost use Rattle.std.specs.Prelude.{◌≡◌, ◌<◌, [], ◌∷◌, length, Some, IfOk, IsSome};
+ghost use Rattle.std.specs.Prelude.{◌≡◌, [], ◌∷◌, Some, IfOk};
 ghost use Rattle.nxf_tree.specs.WellFormed.{IsWellFormed};
-ghost use Rattle.nxf_tree.specs.declared.tree.Signature.{Signature};
-ghost use Rattle.fin_struct.specs.KripkeTables.{IsKripkeFor, existence_number};
+ghost use Rattle.structure_tests.specs.steps.Signatures.{local_symbol};
 
+use crate::existence::put;
 use designation::{axioms, first_fault};
 use fin_struct::{Condition, Kripke};
 use nxf_base::{List, Memory, Text};
@@ -59,19 +59,6 @@ fn axioms_of_local_functions(rt: HostRuntime) -> Result<(), Fail> {
     Ok(())
 }
 
-// Lets an element exist at a world, if it is one of the first sort, which isn't constant.
-fn put(kripke: &mut Kripke, world: u32, element: u32)
-    requires sort { 0 < length kripke.old.existence }
-    requires varying { IsSome (existence_number kripke.old 0) }
-    ensures same { (sig : Signature) → IsKripkeFor sig kripke.old → IsKripkeFor sig kripke.new }
-    ensures existence { kripke.new.existence ≡ kripke.old.existence }
-{
-    if world >= kripke.worlds() || element >= kripke.size(0) {
-        return;
-    }
-    kripke.set_exists(0, world, element, true);
-}
-
 // The first fault of two worlds and two elements, which exist as said; the values of `f` are all element 0.
 fn fault_of(
     alloc: Global,
@@ -116,7 +103,7 @@ fn values_that_exist(rt: HostRuntime) -> Result<(), Fail> {
 }
 
 fn constant(alloc: Global, name: &[u8], sort: u32) -> Result<SymbolEntry, Memory>
-    ensures { IfOk result (λ made. made ≡ record { name = name.now; args = []; gives = Some sort; designation = Designation.Rigid; locality = Locality.Local }) }
+    ensures { IfOk result (λ made. made ≡ local_symbol name.now [] (Some sort) Designation.Rigid) }
 {
     Ok(SymbolEntry {
         name: Text::from_bytes(alloc, name)?,

@@ -3,7 +3,7 @@ ghost use Rattle.std.specs.Prelude.{◌≡◌, ◌+◌, ◌*◌, ◌<◌, ◌≤
 ghost use Rattle.fin_struct.specs.Places.{InRange};
 ghost use Rattle.fin_struct.specs.Cells.{table_at};
 
-use crate::structures::{numbers, small};
+use crate::structures::{numbers, small, small_structure};
 use fin_struct::{Kripke, Structure, classical};
 use std::marker::Brand;
 use std::sync::ledger::{Blank, Ledger};
@@ -51,9 +51,7 @@ fn is_serial<L: Ledger>(kripke: &Kripke, index: u32, blank: Blank) -> bool
 #[test]
 fn pairs_through_a_view(rt: HostRuntime) -> Result<(), Fail> {
     let alloc = rt.alloc();
-    let signature = small(alloc)?;
-    let sizes = numbers(alloc, &[2, 2, 3])?;
-    let mut kripke = Kripke::new(alloc, &signature, &sizes)?;
+    let mut kripke = small_structure(alloc, &small(alloc)?)?;
     kripke.set_related(0, 0, 1, true);
     assert!(rt; !is_serial::<Brand>(&kripke, 0, Blank::new(1)));
     kripke.set_related(0, 1, 1, true);
