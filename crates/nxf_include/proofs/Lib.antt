@@ -5,6 +5,7 @@ pub mod Callers
 pub mod OneFile
 pub mod Over
 pub mod Promising
+pub mod Including
 pub mod Refusing
 pub mod Selecting
 pub mod Steps

@@ -6,8 +6,9 @@ use Rattle.syntax_definitions.specs.Gathered.{Visits}
 use Rattle.syntax_definitions.specs.Promises.{AreReadStatements, AreFine}
 use Rattle.nxf_include.specs.Roots.{files_of}
 use Rattle.nxf_include.proofs.Callers.{Keeps-same, Keeps-after, fault_after, misses_after}
-use Rattle.nxf_include.proofs.Bringing.{deep, begins, begins_not, met_first, adds_annotated, adds_included, refuses_included, refuses_selected, ends}
-use Rattle.nxf_include.proofs.Promising.{annotated_fine, rest_read, annotated_weight, included_fine, included_weight}
+use Rattle.nxf_include.proofs.Bringing.{deep, begins, begins_not, met_first, adds_annotated, refuses_included, refuses_selected, ends}
+use Rattle.nxf_include.proofs.Including.{includes_part}
+use Rattle.nxf_include.proofs.Promising.{annotated_fine, rest_read, annotated_weight}
 use Rattle.nxf_include.proofs.Selecting.{none_left}
 use Rattle.nxf_include.proofs.gathering.+visit.Goals as goal
 
@@ -67,35 +68,17 @@ returns-in_err-add_selected-in-Include-clause-keeps g t c = Keeps-after _ _ _ c.
 
 pub loop-statement-preserved-in_ok-add_selected-in-Include : goal.loop-statement-preserved-in_ok-add_selected-in-Include
 loop-statement-preserved-in_ok-add_selected-in-Include g t c =
-    let kept = c.in_ok-add_selected-in-Include.ensures.added in
-    let rest = into_iter_items c.next.new.self in
-    let next = c.in-Some.ensures.steps.0 ∙ ap (λ s. s ∷ rest) c.in-Include.is in (
-      tt,
-      tt,
-      adds_included _ (c.args.levels - 1) c.loop-statement.statements c.loop-statement.sum _ _ _ _ (files_of (map g.L.Library.shelf c.args.libraries.now)) c.in_ok-part-in-Include.part kept.0 _ c.loop-statement.invariant.2
-          next (met_first _ _ (λ files. Visits files (c.args.levels - 1) c.loop-statement.sum c.in-Include.file) _ c.loop-statement.invariant.3 c.in_ok-part-in-Include.ensures.answers) kept.1 kept.2,
-      Keeps-after _ _ _ c.loop-statement.invariant.3 c.in_ok-part-in-Include.ensures.keeps,
-      included_fine _ _ c.in_ok-part-in-Include.part.statements c.loop-statement.statements _ kept.0 kept.1 kept.2 c.loop-statement.invariant.4 c.in_ok-part-in-Include.ensures.fine,
-      rest_read _ rest _ next c.loop-statement.invariant.5,
-      included_weight _ _ c.args.sum c.loop-statement.sum c.in_ok-part-in-Include.part.sum c.in_ok-part-in-Include.part.statements c.loop-statement.statements _ kept.0 _ rest _ kept.1 kept.2 next c.in_ok-part-in-Include.ensures.counts.1 c.loop-statement.invariant.6,
-      c.in_ok-part-in-Include.ensures.counts.0,
-    )
+    let next = c.in-Some.ensures.steps.0 ∙ ap (λ s. s ∷ into_iter_items c.next.new.self) c.in-Include.is in
+    let here = includes_part _ (c.args.levels - 1) c.args.sum c.loop-statement.sum _ _ _ c.in-Include.file _ c.in_ok-part-in-Include.part c.loop-statement.statements _ _ _ c.loop-statement.invariant.2 c.loop-statement.invariant.3 c.loop-statement.invariant.4 c.loop-statement.invariant.5 c.loop-statement.invariant.6
+    c.in_ok-part-in-Include.ensures.answers c.in_ok-part-in-Include.ensures.keeps c.in_ok-part-in-Include.ensures.fine c.in_ok-part-in-Include.ensures.counts c.in_ok-add_selected-in-Include.ensures.added next in
+    (tt, tt, here.0, here.1, here.2, here.3, here.4, here.5)
 
 pub loop-statement-preserved-in_ok-add_selected-in-Include-2 : goal.loop-statement-preserved-in_ok-add_selected-in-Include-2
 loop-statement-preserved-in_ok-add_selected-in-Include-2 g t c =
-    let kept = c.in_ok-add_selected-in-Include.ensures.added in
-    let rest = into_iter_items c.next.new.self in
-    let next = c.in-Some.ensures.steps.0 ∙ ap (λ s. s ∷ rest) c.in-Include.is in (
-      tt,
-      tt,
-      adds_included _ (c.args.levels - 1) c.loop-statement.statements c.loop-statement.sum _ _ _ _ (files_of (map g.L.Library.shelf c.args.libraries.now)) c.in_ok-part-in-Include.part kept.0 _ c.loop-statement.invariant.2
-          next (met_first _ _ (λ files. Visits files (c.args.levels - 1) c.loop-statement.sum c.in-Include.file) _ c.loop-statement.invariant.3 c.in_ok-part-in-Include.ensures.answers) kept.1 kept.2,
-      Keeps-after _ _ _ c.loop-statement.invariant.3 c.in_ok-part-in-Include.ensures.keeps,
-      included_fine _ _ c.in_ok-part-in-Include.part.statements c.loop-statement.statements _ kept.0 kept.1 kept.2 c.loop-statement.invariant.4 c.in_ok-part-in-Include.ensures.fine,
-      rest_read _ rest _ next c.loop-statement.invariant.5,
-      included_weight _ _ c.args.sum c.loop-statement.sum c.in_ok-part-in-Include.part.sum c.in_ok-part-in-Include.part.statements c.loop-statement.statements _ kept.0 _ rest _ kept.1 kept.2 next c.in_ok-part-in-Include.ensures.counts.1 c.loop-statement.invariant.6,
-      c.in_ok-part-in-Include.ensures.counts.0,
-    )
+    let next = c.in-Some.ensures.steps.0 ∙ ap (λ s. s ∷ into_iter_items c.next.new.self) c.in-Include.is in
+    let here = includes_part _ (c.args.levels - 1) c.args.sum c.loop-statement.sum _ _ _ c.in-Include.file _ c.in_ok-part-in-Include.part c.loop-statement.statements _ _ _ c.loop-statement.invariant.2 c.loop-statement.invariant.3 c.loop-statement.invariant.4 c.loop-statement.invariant.5 c.loop-statement.invariant.6
+    c.in_ok-part-in-Include.ensures.answers c.in_ok-part-in-Include.ensures.keeps c.in_ok-part-in-Include.ensures.fine c.in_ok-part-in-Include.ensures.counts c.in_ok-add_selected-in-Include.ensures.added next in
+    (tt, tt, here.0, here.1, here.2, here.3, here.4, here.5)
 
 pub loop-statement-preserved : goal.loop-statement-preserved
 loop-statement-preserved g t c =
