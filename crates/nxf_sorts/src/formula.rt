@@ -58,15 +58,7 @@ fn number_atom(
     ensures { PutsFormula names.now binders.now (Formula.Atom name.now terms.now) cells.old cells.new result }
 {
     let (number, sorts) = used_predicate(alloc, names, name, terms.len())?;
-    let args = number_terms(
-        alloc,
-        names,
-        binders,
-        cells,
-        name,
-        sorts.as_slice(),
-        terms.as_slice(),
-    )?;
+    let args = number_terms(alloc, names, binders, cells, name, sorts, terms.as_slice())?;
     let at = cells.put_atom(number, args.as_slice())?;
     Ok(at)
 }

@@ -47,7 +47,7 @@ fn used_function<'a>(
     names: &'a Names,
     name: &Text,
     count: usize,
-) -> Result<(u32, &'a List<u32>, u32), Fault>
+) -> Result<(u32, &'a [u32], u32), Fault>
     requires { IsGoodSignature names.now.signature }
     ensures { MatchResult result (λ p. FindsUse names.now name.now count (Some p.2) p.0 p.1.now) (Misuses names.now name.now count true) }
 {
@@ -60,7 +60,7 @@ fn used_function<'a>(
             None => Err(wrong_use(alloc, names, name)),
             Some(gives) => {
                 if entry.args.len() == count {
-                    Ok((number, &entry.args, gives))
+                    Ok((number, entry.args.as_slice(), gives))
                 } else {
                     Err(wrong_use(alloc, names, name))
                 }
@@ -75,7 +75,7 @@ pub fn used_predicate<'a>(
     names: &'a Names,
     name: &Text,
     count: usize,
-) -> Result<(u32, &'a List<u32>), Fault>
+) -> Result<(u32, &'a [u32]), Fault>
     requires { IsGoodSignature names.now.signature }
     ensures { MatchResult result (λ p. FindsUse names.now name.now count None p.0 p.1.now) (Misuses names.now name.now count false) }
 {
@@ -88,7 +88,7 @@ pub fn used_predicate<'a>(
             Some(_) => Err(wrong_use(alloc, names, name)),
             None => {
                 if entry.args.len() == count {
-                    Ok((number, &entry.args))
+                    Ok((number, entry.args.as_slice()))
                 } else {
                     Err(wrong_use(alloc, names, name))
                 }
@@ -120,15 +120,7 @@ pub fn number_term(
         },
         Term::App(name, terms) => {
             let (number, sorts, gives) = used_function(alloc, names, name, terms.len())?;
-            let args = number_terms(
-                alloc,
-                names,
-                binders,
-                cells,
-                name,
-                sorts.as_slice(),
-                terms.as_slice(),
-            )?;
+            let args = number_terms(alloc, names, binders, cells, name, sorts, terms.as_slice())?;
             let at = cells.put_app(number, args.as_slice())?;
             Ok((at, gives))
         }

@@ -44,7 +44,7 @@ number_term-returns-in_err-args-in-App t c =
     refused_with _ _ _ e c.from_residual-in_err-args-in-App.ensures.1
     (subst (λ (x : Term). IsFault (term_fault (modal_language sig) us (bound_in sig bs) x) e) (sym c.in-App.is)
     (arguments_refused sig us bs c.in-App.name c.in-App.terms c.in_ok-number-in-App.gives c.in_ok-number-in-App.number c.in_ok-number-in-App.sorts.now (rw (← c.len.ensures) c.in_ok-number-in-App.ensures) e
-    (rw (← c.as_slice.ensures, ← c.as_slice-in-App.ensures) c.in_err-args-in-App.ensures)))
+    (rw (← c.as_slice.ensures) c.in_err-args-in-App.ensures)))
 
 pub number_term-returns-in_ok-at-in-Some : goal.number_term-returns-in_ok-at-in-Some
 number_term-returns-in_ok-at-in-Some t c =
@@ -70,13 +70,13 @@ number_term-returns-in_ok-at-in-App t c =
     let old = c.args.cells.now in
     let mid = c.number_terms.new.cells in
     let new = c.put_app.new.self in
-    let list = c.as_slice-in-App-2.result.now in
+    let list = c.as_slice-in-App.result.now in
     let gives = c.in_ok-number-in-App.gives in
     let h = c.in_ok-args-in-App.ensures in
     subst (λ (x : Term). PutsTerm (λ n. NumbersTerm sig us bs x n gives) old new c.in_ok-at-in-App.at) (sym c.in-App.is)
     (puts_term_more (λ n. NumbersTerm sig us bs (App c.in-App.name c.in-App.terms) n gives) old mid new c.in_ok-at-in-App.at (numbered.App c.in_ok-number-in-App.number (map (term_at mid) list)) h.grows c.in_ok-at-in-App.ensures.put
     (application_numbered sig us bs c.in-App.name c.in-App.terms gives c.in_ok-number-in-App.number c.in_ok-number-in-App.sorts.now (rw (← c.len.ensures) c.in_ok-number-in-App.ensures) (map (term_at mid) list)
-    (rw (c.as_slice-in-App-2.ensures, ← c.as_slice.ensures, ← c.as_slice-in-App.ensures) h.holds)))
+    (rw (c.as_slice-in-App.ensures, ← c.as_slice.ensures) h.holds)))
 
 pub number_terms-returns-in_err-argument : goal.number_terms-returns-in_err-argument
 number_terms-returns-in_err-argument level c =

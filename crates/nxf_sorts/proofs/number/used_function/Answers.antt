@@ -1,8 +1,9 @@
-use Rattle.std.proofs.Common.{Some, true, ap, ◌∙◌, sym}
+use Rattle.std.proofs.Common.{Some, true, ap, ◌∙◌, sym, subst}
 use Rattle.std.specs.Prelude.{is_some}
 use Rattle.nxf_tree.specs.Counting.{same_truth}
 use Rattle.std.proofs.lemmas.Bool.{eqb-true}
 use Rattle.name_laws.proofs.Spelling.{never}
+use Rattle.nxf_sorts.specs.steps.Numbering.{Uses}
 use Rattle.nxf_sorts.proofs.UseLemmas.{fault_is, no_entry, wrong_kind, wrong_count, used}
 use Rattle.nxf_sorts.proofs.number.used_function.Goals as goal
 
@@ -18,7 +19,8 @@ returns-in-None-gives c =
 
 pub returns-then-len-count : goal.returns-then-len-count
 returns-then-len-count c =
-    used c.args.names.now.signature c.args.names.now.declared c.args.name.now c.args.count (Some c.in-Some-gives.gives) (c.in-Some.number, c.in-Some.entry.now) c.requires (sym c.has_sort.ensures ∙ c.if-has_sort.false) (sym c.in-Some.ensures) c.in-Some-gives.is (sym c.len.ensures ∙ c.if-len-count.true)
+    subst (Uses c.args.names.now.signature c.args.names.now.declared c.args.name.now c.args.count (Some c.in-Some-gives.gives) c.in-Some.number) (sym c.as_slice.ensures)
+    (used c.args.names.now.signature c.args.names.now.declared c.args.name.now c.args.count (Some c.in-Some-gives.gives) (c.in-Some.number, c.in-Some.entry.now) c.requires (sym c.has_sort.ensures ∙ c.if-has_sort.false) (sym c.in-Some.ensures) c.in-Some-gives.is (sym c.len.ensures ∙ c.if-len-count.true))
 
 pub returns-else-len-count : goal.returns-else-len-count
 returns-else-len-count c =
