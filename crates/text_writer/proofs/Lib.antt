@@ -1,2 +1,4 @@
+pub mod CallerLemmas
 pub mod Numerals
 pub mod Starts
+pub mod TextRows

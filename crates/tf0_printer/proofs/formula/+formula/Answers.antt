@@ -3,8 +3,8 @@ use Rattle.std.specs.Prelude.{codes}
 use Rattle.std.specs.List.{join_by}
 use Rattle.nxf_tree.specs.Shapes.{Not_is, Pair_is, Quant_is, Modal_is}
 use Rattle.nxf_tree.specs.Text.{formula_text, unit_text, operator_text, quantifier_text, modality_text, sort_text}
+use Rattle.text_writer.proofs.CallerLemmas.{formula_text_of_And, formula_text_of_Or}
 use Rattle.tf0_printer.proofs.Appending.{after_one, after_two}
-use Rattle.tf0_printer.proofs.Rows.{formula_text_of_And, formula_text_of_Or}
 use Rattle.tf0_printer.proofs.formula.+formula.Goals as goal
 
 pub write_formula-returns-in_ok-put-in-Not : goal.write_formula-returns-in_ok-put-in-Not

@@ -1,6 +1,6 @@
 use Rattle.std.proofs.Common.{◌≡◌, ap, ◌∙◌, sym}
 use Rattle.nxf_tree.specs.Text.{term_text, application_text}
-use Rattle.tf0_printer.proofs.Rows.{term_text_of_App}
+use Rattle.text_writer.proofs.CallerLemmas.{term_text_of_App}
 use Rattle.tf0_printer.proofs.term.+term.Goals as goal
 
 pub write_term-returns-in-App : goal.write_term-returns-in-App
