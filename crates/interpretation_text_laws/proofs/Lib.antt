@@ -1,2 +1,4 @@
 pub mod Apart
+pub mod Fine
+pub mod Fitting
 pub mod Marks

@@ -1,1 +1,2 @@
 pub mod ElementsApart
+pub mod SpelledInterpretations
