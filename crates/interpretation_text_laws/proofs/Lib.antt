@@ -1,4 +1,14 @@
 pub mod Apart
 pub mod Fine
 pub mod Fitting
+pub mod Lookups
 pub mod Marks
+pub mod ReadBack
+pub mod ReadFaults
+pub mod ReadNames
+pub mod ReadParts
+pub mod ReadRows
+pub mod ReadSorts
+pub mod ReadSymbols
+pub mod ReadTables
+pub mod ReadWalk

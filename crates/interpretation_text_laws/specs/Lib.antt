@@ -1,2 +1,3 @@
 pub mod ElementsApart
+pub mod ReadBack
 pub mod SpelledInterpretations

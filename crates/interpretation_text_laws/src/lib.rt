@@ -2,6 +2,7 @@
 #![tactic(auto)]
 
 ghost use Rattle.interpretation_text_laws.specs.ElementsApart.{ElementsApartLaw};
+ghost use Rattle.interpretation_text_laws.specs.ReadBack.{ReadBackLaw};
 ghost use Rattle.interpretation_text_laws.specs.SpelledInterpretations.{FitsLaw, SpellsLaw, OnlyLaw};
 
 /// Over the classical signature of a well-formed signature, two elements have two names, and no element has the name of a
@@ -16,4 +17,9 @@ pub fn interpretation_text_law()
     ensures fits { FitsLaw }
     ensures spells { SpellsLaw }
     ensures only { OnlyLaw }
+{}
+
+/// The interpretation of a structure is read as that structure, without a fault.
+pub fn read_back_law()
+    ensures { ReadBackLaw }
 {}
