@@ -7,6 +7,8 @@ mod corresponding;
 #[cfg(test)]
 mod existence;
 #[cfg(test)]
+mod interpretations;
+#[cfg(test)]
 mod relations;
 #[cfg(test)]
 mod structures;
