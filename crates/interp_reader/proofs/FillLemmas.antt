@@ -1,14 +1,10 @@
 -- Tables filled one after the other.
-use Rattle.std.proofs.Common.{◌≡◌, ◌≢◌, ◌<◌, ◌≤◌, ◌⊎◌, inl, inr, eq-eqb, true≢false, ℕ, zero, suc, ◌+◌, Bool, true, false, List, [], ◌∷◌, map, drop, length, get_or, eqb, Option, None, Some, refl, ap, ◌∙◌, sym, subst, arith}
-use Rattle.std.specs.Prelude.{◌&&◌, ◌||◌, not, is_some, unwrap_or, if◌then◌else◌}
-use Rattle.std.specs.List.{list_any}
-use Rattle.std.specs.Map.{lookup}
-use Rattle.std.specs.Option.{option_map}
+use Rattle.std.proofs.Common.{◌≡◌, ◌<◌, eq-eqb, true≢false, ℕ, suc, ◌+◌, Bool, true, false, List, [], ◌∷◌, drop, length, get_or, None, Some, refl, ap, ◌∙◌, sym, arith}
+use Rattle.std.specs.Prelude.{◌||◌, unwrap_or, if◌then◌else◌}
 use Rattle.std.proofs.lemmas.List.{at_drop_more}
 use Rattle.nxf_tree.specs.declared.tree.TableEntry.{TableEntry}
-use Rattle.nxf_tree.specs.declared.tree.ClassicalSignature.{ClassicalSignature}
 use Rattle.nxf_tree.specs.Names.{same_text}
-use Rattle.interpretation_definitions.specs.Interpretation.{GivenRows, incomplete_from, is_incomplete, rows_of}
+use Rattle.interpretation_definitions.specs.Interpretation.{GivenRows, incomplete_from, is_incomplete}
 use Rattle.interpretation_parts.proofs.CallerLemmas.{same_text-true}
 use Rattle.fin_struct.specs.Cells.{cell, table_at}
 use Rattle.fin_struct.specs.Places.{InRange}

@@ -1,3 +1,4 @@
+pub mod CallerLemmas
 pub mod FillLemmas
 pub mod FinishLemmas
 pub mod GivenLemmas
@@ -6,4 +7,5 @@ pub mod OwnLemmas
 pub mod Passing
 pub mod PlaceLemmas
 pub mod ReadLemmas
+pub mod StructureGiven
 pub mod TableWalks

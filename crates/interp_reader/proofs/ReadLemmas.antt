@@ -1,5 +1,5 @@
 -- A whole file: its sizes, its context, and the rows that its parts give.
-use Rattle.std.proofs.Common.{◌≡◌, ◌<◌, ℕ, zero, suc, ◌+◌, List, [], ◌∷◌, ◌++◌, map, length, get_or, max, Option, None, Some, Result, Ok, Err, refl, ap, ap₂, ◌∙◌, sym, subst, arith}
+use Rattle.std.proofs.Common.{◌≡◌, ◌<◌, ℕ, suc, ◌+◌, List, [], ◌∷◌, ◌++◌, map, length, get_or, max, Option, None, Some, Result, Err, refl, ap, ap₂, ◌∙◌, sym, subst, arith}
 use Rattle.std.specs.Prelude.{flat_map, slice_index, unwrap_or}
 use Rattle.std.specs.Option.{option_map}
 use Rattle.std.proofs.lemmas.List.{append-nil}
@@ -7,7 +7,6 @@ use Rattle.nxf_base.specs.declared.status.InterpKind.{InterpKind}
 use Rattle.nxf_tree.specs.declared.tree.File.{File}
 use Rattle.nxf_tree.specs.declared.tree.SortName.{SortName}
 use Rattle.nxf_tree.specs.declared.tree.Statement.{Statement}
-use Rattle.nxf_tree.specs.declared.tree.TableEntry.{TableEntry}
 use Rattle.nxf_tree.specs.declared.tree.ClassicalSignature.{ClassicalSignature}
 use Rattle.nxf_tree.specs.Rows.{AreSizes, size_at}
 use Rattle.classical_signature_laws.specs.ClassicalSignatures.{HasSorts}
@@ -19,8 +18,8 @@ use Rattle.interpretation_definitions.specs.declared.error.InterpError.TheVarian
 use Rattle.interpretation_definitions.specs.declared.fault.PartFault.{PartFault}
 use Rattle.interpretation_definitions.specs.Parts.{Part, all_parts, parts_of}
 use Rattle.interpretation_definitions.specs.Context.{Context, actual_entry, context_of, count_for, elements_listed, listings_of, symbols_of}
-use Rattle.interpretation_definitions.specs.Given.{Given, given_by, own_rows, value_in}
-use Rattle.interpretation_definitions.specs.Interpretation.{interpretation_of, kind_of, sizes_from, sizes_of, unless_fault, within_limits}
+use Rattle.interpretation_definitions.specs.Given.{Given, given_by, own_rows}
+use Rattle.interpretation_definitions.specs.Interpretation.{interpretation_of, sizes_from, sizes_of, unless_fault, within_limits}
 use Rattle.interpretation_parts.specs.declared.items.Item.{Item}
 use Rattle.interpretation_parts.specs.steps.After.{RefusesFault}
 use Rattle.interpretation_parts.specs.steps.Held.{HasRows}
@@ -82,7 +81,7 @@ parts_numbered : (k : ℕ) (parts : List Part) → parts_of_items (numbered k pa
 parts_numbered k [] = refl
 parts_numbered k (p ∷ parts) = ap (λ ps. p ∷ ps) (parts_numbered k parts)
 
-parts_are : (k : ℕ) (ss : List Statement) → parts_of_items (numbered_parts k ss) ≡ all_parts ss
+pub parts_are : (k : ℕ) (ss : List Statement) → parts_of_items (numbered_parts k ss) ≡ all_parts ss
 parts_are k [] = refl
 parts_are k (s ∷ ss) =
     map-append (λ (p : ℕ × Part). p.1) (numbered k (parts_of s)) (numbered_parts (suc k) ss)

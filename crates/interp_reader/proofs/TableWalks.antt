@@ -1,6 +1,6 @@
 -- A walk over the rows of a table, one row more.
-use Rattle.std.proofs.Common.{◌≡◌, ◌≢◌, ◌<◌, ◌≤◌, ◌⊎◌, inl, inr, ℕ, zero, suc, ◌+◌, Bool, true, false, List, [], ◌∷◌, map, drop, eqb, length, get_or, Option, None, Some, refl, ap, ◌∙◌, sym, subst, arith}
-use Rattle.std.specs.Prelude.{◌&&◌, is_some, slice_get, unwrap_or}
+use Rattle.std.proofs.Common.{◌≡◌, ◌≢◌, ◌<◌, ◌≤◌, ◌⊎◌, inl, inr, ℕ, zero, suc, ◌+◌, true, false, List, [], ◌∷◌, drop, eqb, length, get_or, Option, Some, refl, ap, ◌∙◌, sym, subst, arith}
+use Rattle.std.specs.Prelude.{◌&&◌, is_some, unwrap_or}
 use Rattle.std.proofs.lemmas.Bool.Decides.{eqb_tells}
 use Rattle.std.proofs.lemmas.List.{length-drop}
 use Rattle.nxf_tree.specs.Rows.{all_rows}
@@ -8,7 +8,7 @@ use Rattle.fin_struct.specs.Cells.{CellTable, OthersStay, bound_of, cell, no_tab
 use Rattle.fin_struct.specs.Places.{InRange, place, rows_count}
 use Rattle.fin_struct.specs.RowLists.{AreFilled, shape_of, shapes_of}
 use Rattle.fin_struct.specs.StructureTables.{StructureTables}
-use Rattle.fin_struct.proofs.CallerLemmas.{place_below, all_rows-at, length-all_rows, place-row_at, row_at, row_at-in_range, written_filled, walk-next}
+use Rattle.fin_struct.proofs.CallerLemmas.{all_rows-at, length-all_rows, place-row_at, row_at, row_at-in_range, written_filled, walk-next}
 use Rattle.interpretation_parts.proofs.CallerLemmas.{map_length}
 use Rattle.interp_reader.specs.steps.Filling.{IsAt, IsFilledTo, has_all, row_value, row_value_or_0}
 

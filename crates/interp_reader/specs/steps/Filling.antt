@@ -8,7 +8,7 @@ use Rattle.nxf_tree.specs.declared.tree.TableEntry.{TableEntry}
 use Rattle.nxf_tree.specs.Names.{same_text}
 use Rattle.nxf_tree.specs.Rows.{all_rows, size_at}
 use Rattle.nxf_tree.specs.Structures.{table_shapes}
-use Rattle.fin_struct.specs.Cells.{CellTable, bound_of, cell, table_at}
+use Rattle.fin_struct.specs.Cells.{bound_of, cell, table_at}
 use Rattle.fin_struct.specs.Places.{InRange, place, rows_count}
 use Rattle.fin_struct.specs.RowLists.{AreFilled, shapes_of}
 use Rattle.fin_struct.specs.StructureTables.{StructureTables}

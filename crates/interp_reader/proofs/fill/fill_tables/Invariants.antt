@@ -1,4 +1,4 @@
-use Rattle.std.proofs.Common.{◌≡◌, ◌+◌, drop, length}
+use Rattle.std.proofs.Common.{◌≡◌, ◌+◌, drop}
 use Rattle.interpretation_definitions.specs.Interpretation.{incomplete_from}
 use Rattle.interp_reader.specs.steps.Filling.{IsFilledBelow, rows_in}
 use Rattle.interp_reader.proofs.fill.fill_tables.Given as goal

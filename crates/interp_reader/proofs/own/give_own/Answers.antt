@@ -1,4 +1,4 @@
-use Rattle.std.proofs.Common.{◌≡◌, ◌∷◌, ◌++◌, [], ◌∙◌, ap, sym, subst, OnOk}
+use Rattle.std.proofs.Common.{◌∷◌, ◌++◌, [], ◌∙◌, ap, sym, subst, OnOk}
 use Rattle.std.specs.Map.{lookup}
 use Rattle.nxf_tree.specs.Names.{same_text}
 use Rattle.interpretation_definitions.specs.Context.{element}

@@ -2,7 +2,6 @@ use Rattle.std.proofs.Common.{◌≡◌, ◌∙◌, [], None, Ok, IfErr, IfOk, a
 use Rattle.nxf_tree.specs.Rows.{AreSizes}
 use Rattle.interpretation_definitions.specs.Context.{context_of, elements_listed}
 use Rattle.interpretation_definitions.specs.Given.{given_by}
-use Rattle.interpretation_definitions.specs.Interpretation.{sizes_of}
 use Rattle.interpretation_parts.specs.steps.After.{RefusesFault}
 use Rattle.interpretation_parts.specs.steps.Held.{context_in, HasRows}
 use Rattle.interpretation_parts.specs.steps.Items.{item_fault, items_in, numbered_parts, parts_in_items}

@@ -1,4 +1,4 @@
-use Rattle.std.proofs.Common.{◌≡◌, ◌<◌, ◌∙◌, ap, sym, subst, drop, List, ℕ, Option}
+use Rattle.std.proofs.Common.{◌<◌, ◌∙◌, sym, subst, drop, ℕ, Option}
 use Rattle.fin_struct.specs.Cells.{bound_of, table_at}
 use Rattle.fin_struct.specs.Places.{InRange}
 use Rattle.interp_reader.proofs.TableWalks.{at_end, at_next, next_row, same_sizes, same_values}
