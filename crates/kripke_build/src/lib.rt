@@ -6,7 +6,7 @@ ghost use Rattle.nxf_tree.specs.ClassicalSignature.{classical_signature_of};
 ghost use Rattle.nxf_tree.specs.Structures.{Corresponds};
 ghost use Rattle.nxf_tree.specs.WellFormed.{IsWellFormed};
 ghost use Rattle.fin_struct.specs.StructureTables.{IsFor, classical_structure};
-ghost use Rattle.fin_struct.specs.KripkeTables.{IsKripkeFor, kripke_structure};
+ghost use Rattle.fin_struct.specs.KripkeTables.{IsKripke, IsKripkeFor, kripke_structure};
 ghost use Rattle.fin_struct.specs.Corresponding.{lowered, lifted};
 
 use fin_struct::{Kripke, Structure};
@@ -22,6 +22,7 @@ pub fn lift(alloc: Global, over: &Signature, structure: &Structure) -> Result<Kr
     requires over { IsFor (classical_signature_of over.now) structure.now }
     ensures made { IfOk result (λ made. made ≡ lifted over.now structure.now) }
     ensures over { IfOk result (λ made. IsKripkeFor over.now made) }
+    ensures within { IfOk result (λ made. IsKripke made) }
     ensures corresponds { IfOk result (λ made. Corresponds (kripke_structure made) (classical_structure structure.now)) }
     ensures undone { IfOk result (λ made. lowered made ≡ structure.now) }
 {
