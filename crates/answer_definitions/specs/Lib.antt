@@ -1,5 +1,9 @@
 pub mod Answer
 pub mod Check
 pub mod FaultNames
+pub mod InterpretationFile
 pub mod KripkeFile
+pub mod Lift
 pub mod ProblemFile
+pub mod TwoFiles
+pub mod Verdict

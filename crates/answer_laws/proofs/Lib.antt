@@ -1,5 +1,11 @@
 pub mod Deciding
 pub mod DecidingTables
-pub mod SomeText
-pub mod OneReading
 pub mod OneCheck
+pub mod OneInterpretation
+pub mod OneLift
+pub mod OneReading
+pub mod Refusals
+pub mod SomeText
+pub mod SortsInRange
+pub mod TwoAnswers
+pub mod Verdicts

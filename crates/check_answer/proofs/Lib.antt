@@ -1,2 +1,4 @@
+pub mod CallerLemmas
+pub mod Judged
 pub mod Names
 pub mod Verdicts

@@ -1,37 +1,21 @@
--- From what the parts of `check` promise to its answer.
-use Rattle.std.proofs.Common.{◌≡◌, ℕ, List, Some, Result, Ok, Err, refl, sym, ap, subst}
-use Rattle.std.specs.Prelude.{◌⊎◌, IfErr, IsErrAnd}
+-- From what is promised of tokens and of the text of a structure to what the second file is read as.
+use Rattle.std.proofs.Common.{◌≡◌, ℕ, List, Ok, Err, refl, sym, subst}
 use mathlib.Core.Logic.{inl, inr}
 use Rattle.nxf_base.specs.declared.status.Status.{Status}
-use Rattle.nxf_base.specs.declared.status.Status.TheVariants as status
 use Rattle.tptp_lex.specs.declared.token.Token.{Token}
 use Rattle.tptp_lex.specs.Lexing.{Lexes}
 use Rattle.nxf_tree.specs.declared.tree.Signature.{Signature}
-use Rattle.nxf_tree.specs.declared.tree.PartEntry.{PartEntry}
-use Rattle.nxf_tree.specs.Structures.{KripkeStructure}
-use Rattle.fin_struct.specs.declared.condition.Condition.{Condition}
 use Rattle.fin_struct.specs.KripkeTables.{KripkeTables, kripke_structure}
 use Rattle.structure_laws.proofs.KripkeLists.{kripke-law}
 use Rattle.plain_tokens.specs.PlainTokens.{plains_of}
-use Rattle.formula_cells.specs.Checked.{CheckedFile}
 use Rattle.kripke_text_definitions.specs.declared.error.KripkeTextError.{KripkeTextError}
 use Rattle.kripke_text_definitions.specs.declared.error.KripkeTextError.TheVariants.{Form, TooManyWorlds, TooBig, Memory}
 use Rattle.kripke_text_definitions.specs.Reading.{Explains}
 use Rattle.kripke_text_laws.proofs.Limits.{few_of}
 use Rattle.kripke_text.specs.Texts.{IsTextOf}
 use Rattle.answer_definitions.specs.Answer.{OrMemory}
-use Rattle.answer_definitions.specs.Check.{ChecksText}
-use Rattle.answer_definitions.specs.FaultNames.{fails_of}
 use Rattle.answer_definitions.specs.KripkeFile.{ReadsStructure, not_lexed, not_text, read, status_of_text}
-use Rattle.check_answer.specs.steps.Judging.{IsFaultOf}
-use Rattle.check_answer.specs.steps.Refusing.{IsLexRefusal}
-
--- an error that is handed on
-pub handed_on : {X : Type 0} (r : Result X Status) (P : Status → Type 0) (e : Status) → IsErrAnd r (λ (x : Status). x ≡ e) → P e → IfErr r P
-handed_on (Ok x) P e is h = absurd is
-handed_on (Err x) P e is h = subst P (sym is) h
-
--- ---- the bytes
+use Rattle.check_answer.specs.Lexing.{IsLexRefusal}
 
 module _ (sig : Signature) (name bytes : List ℕ) where
   pub not_lexed_as : (s : Status) → OrMemory (IsLexRefusal name bytes) s → OrMemory (λ s. ReadsStructure sig name bytes (Err s)) s
@@ -53,9 +37,3 @@ module _ (sig : Signature) (name bytes : List ℕ) where
 
     pub refused_as : (e : KripkeTextError) (s : Status) → s ≡ status_of_text e → Explains sig (plains_of bytes tokens) e → OrMemory (λ s. ReadsStructure sig name bytes (Err s)) s
     refused_as e s is h = subst (OrMemory (λ s. ReadsStructure sig name bytes (Err s))) (sym is) (refused_by e h)
-
--- ---- the verdict
-
-pub has_fault : (checked : CheckedFile) (parts : List PartEntry) (name bytes : List ℕ) (K : KripkeStructure) (fault : Condition) (s : Status) → ReadsStructure checked.signature name bytes (Ok K) → (s ≡ status.NotCountermodel (fails_of checked.signature fault)) ⊎ (s ≡ status.Memory) → IsFaultOf checked parts K (Some fault) → OrMemory (λ s. ChecksText checked parts name bytes (Err s)) s
-has_fault checked parts name bytes K fault s reads (inl is) found = inl (λ file h. record { reading = Ok K; reads = reads; judged = (Some fault, found file h, ap Err is) })
-has_fault checked parts name bytes K fault s reads (inr e) found = inr e

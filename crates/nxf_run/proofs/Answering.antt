@@ -6,6 +6,7 @@ use Rattle.nxf_base.specs.declared.status.Status.{Status}
 use Rattle.nxf_base.specs.declared.status.Status.TheVariants as status
 use Rattle.nxf_tree.specs.declared.tree.File.{File}
 use Rattle.nxf_tree.specs.declared.tree.Signature.{Signature}
+use Rattle.nxf_tree.specs.ClassicalSignature.{classical_signature_of}
 use Rattle.nxf_tree.specs.Profile.{Reading, Refusal, RefusedRole, RefusedSpec, RefusedSort, reading_of}
 use Rattle.nxf_tree.specs.Structures.{KripkeStructure}
 use Rattle.fin_struct.specs.declared.condition.Condition.{Condition}
@@ -18,12 +19,23 @@ use Rattle.gathering_laws.proofs.OneGathering.{one_gathering}
 use Rattle.gathering_laws.proofs.SomeGathering.{some_gathering, gathering_of_files}
 use Rattle.kripke_text_definitions.specs.declared.error.KripkeTextError.{KripkeTextError}
 use Rattle.kripke_text_definitions.specs.declared.error.KripkeTextError.TheVariants as text
+use Rattle.kripke_text_definitions.specs.KripkeText.{ktext}
+use Rattle.interpretation_definitions.specs.declared.error.InterpError.{InterpError}
+use Rattle.interpretation_definitions.specs.declared.error.InterpError.TheVariants as interp
 use Rattle.answer_definitions.specs.Answer.{Answer, status_of_gathering, status_of_refusal}
-use Rattle.answer_definitions.specs.Check.{Checks, ChecksBy, ChecksLoaded, IsVerdict, verdict}
-use Rattle.answer_definitions.specs.KripkeFile.{ReadsStructure, not_lexed, not_text, read, status_of_text}
+use Rattle.answer_definitions.specs.Check.{Checks, ChecksBytes, countermodel_line}
+use Rattle.answer_definitions.specs.InterpretationFile as interpretation
+use Rattle.answer_definitions.specs.InterpretationFile.{ReadsInterpretation, status_of_interpretation}
+use Rattle.answer_definitions.specs.KripkeFile as structure
+use Rattle.answer_definitions.specs.KripkeFile.{ReadsStructure, status_of_text}
+use Rattle.answer_definitions.specs.Lift.{Lifts, LiftsBytes}
+use Rattle.answer_definitions.specs.TwoFiles.{AnswersLoaded, AnswersReading, AnswersTwo}
+use Rattle.answer_definitions.specs.Verdict.{IsVerdict, verdict}
 use Rattle.answer_laws.proofs.OneCheck.{some_check, one_check}
-use Rattle.nxf_run.specs.Forms.{Form, form_of, Embed, Check, Later, NoForm}
-use Rattle.nxf_run.specs.Answer.{IsAnswer, AnswersForm, AnswersEmbed, AnswersCheck, Gathered, Loaded, answer_to, answer_by}
+use Rattle.answer_laws.proofs.OneLift.{some_lift, one_lift}
+use Rattle.answer_laws.proofs.Refusals.{no_memory}
+use Rattle.nxf_run.specs.Forms.{Form, form_of, Embed, Check, Lift, Later, NoForm}
+use Rattle.nxf_run.specs.Answer.{IsAnswer, AnswersForm, AnswersEmbed, AnswersFiles, Gathered, Loaded, answer_to, answer_by}
 
 -- ---- no two answers
 
@@ -31,14 +43,18 @@ module _ (files : Files) where
   one_of_embed : (name : List ℕ) (a b : Answer) → AnswersEmbed (Some files) name a → AnswersEmbed (Some files) name b → a ≡ b
   one_of_embed name a b h k = h.answer_is ∙ ap answer_to (one_gathering files name h.outcome k.outcome h.gathered k.gathered) ∙ sym k.answer_is
 
-  one_of_check : (name second : List ℕ) (a b : Answer) → AnswersCheck (Some files) name second a → AnswersCheck (Some files) name second b → a ≡ b
-  one_of_check name second a b h k =
-      let of_outcome = subst (λ (o : Result File GatherError). Checks o second k.bytes b) (one_gathering files name k.outcome h.outcome k.gathered h.gathered) k.checks in
-      one_check h.outcome second h.bytes a b h.checks (subst (λ (bytes : Result (List ℕ) GatherError). Checks h.outcome second bytes b) (k.loaded ∙ sym h.loaded) of_outcome)
+  -- a command with two files
+  module _ (Answers : Result File GatherError → Result (List ℕ) GatherError → Answer → Type 0)
+      (one : (outcome : Result File GatherError) (loaded : Result (List ℕ) GatherError) (a b : Answer) → Answers outcome loaded a → Answers outcome loaded b → a ≡ b) where
+    one_of_two : (name second : List ℕ) (a b : Answer) → AnswersFiles (Some files) name second Answers a → AnswersFiles (Some files) name second Answers b → a ≡ b
+    one_of_two name second a b h k =
+        let of_outcome = subst (λ (o : Result File GatherError). Answers o k.bytes b) (one_gathering files name k.outcome h.outcome k.gathered h.gathered) k.answers in
+        one h.outcome h.bytes a b h.answers (subst (λ (bytes : Result (List ℕ) GatherError). Answers h.outcome bytes b) (k.loaded ∙ sym h.loaded) of_outcome)
 
   one_of_form : (form : Form) (a b : Answer) → AnswersForm (Some files) form a → AnswersForm (Some files) form b → a ≡ b
   one_of_form (Embed name) a b h k = one_of_embed name a b h k
-  one_of_form (Check name second) a b h k = one_of_check name second a b h k
+  one_of_form (Check name second) a b h k = one_of_two (λ outcome bytes. Checks outcome second bytes) (λ outcome bytes x y. one_check outcome second bytes x y) name second a b h k
+  one_of_form (Lift name second) a b h k = one_of_two (λ outcome bytes. Lifts outcome second bytes) (λ outcome bytes x y. one_lift outcome second bytes x y) name second a b h k
   one_of_form Later a b h k = h ∙ sym k
   one_of_form NoForm a b h k = h ∙ sym k
 
@@ -65,15 +81,20 @@ pub some_loaded : (told : Option Files) (name : List ℕ) → (bytes : Result (L
 some_loaded None name = (Err gather.TooMuch, tt, tt)
 some_loaded (Some files) name = (loading.loaded files name, refl, found_of_files name (file_of name files))
 
+some_of_two : (told : Option Files) (name second : List ℕ) (Answers : Result File GatherError → Result (List ℕ) GatherError → Answer → Type 0)
+    → ((outcome : Result File GatherError) (loaded : Result (List ℕ) GatherError) → (answer : Answer) × Answers outcome loaded answer) → (answer : Answer) × AnswersFiles told name second Answers answer
+some_of_two told name second Answers some =
+    let o = some_outcome told name in
+    let l = some_loaded told second in
+    let a = some o.0 l.0 in
+    (a.0, record { outcome = o.0; gathered = o.1; of_files = o.2; bytes = l.0; loaded = l.1; loaded_of_files = l.2; answers = a.1 })
+
 answer_by_form : (told : Option Files) (form : Form) → (answer : Answer) × AnswersForm told form answer
 answer_by_form told (Embed name) =
     let o = some_outcome told name in
     (answer_to o.0, record { outcome = o.0; gathered = o.1; of_files = o.2; answer_is = refl })
-answer_by_form told (Check name second) =
-    let o = some_outcome told name in
-    let l = some_loaded told second in
-    let c = some_check o.0 second l.0 in
-    (c.0, record { outcome = o.0; gathered = o.1; of_files = o.2; bytes = l.0; loaded = l.1; loaded_of_files = l.2; checks = c.1 })
+answer_by_form told (Check name second) = some_of_two told name second (λ outcome bytes. Checks outcome second bytes) (λ outcome bytes. some_check outcome second bytes)
+answer_by_form told (Lift name second) = some_of_two told name second (λ outcome bytes. Lifts outcome second bytes) (λ outcome bytes. some_lift outcome second bytes)
 answer_by_form told Later = (Err status.NotYet, refl)
 answer_by_form told NoForm = (Err status.Usage, refl)
 
@@ -119,6 +140,12 @@ of_text (text.TooManyWorlds n) other = tt
 of_text (text.TooBig c) other = tt
 of_text text.Memory other = absurd (other refl)
 
+of_given : (e : InterpError) → e ≢ interp.Memory → IsRefusal (status_of_interpretation e)
+of_given (interp.Kind kind) other = tt
+of_given (interp.TooManyWorlds n) other = tt
+of_given (interp.TooBig c) other = tt
+of_given interp.Memory other = absurd (other refl)
+
 -- ---- the answer to `embed`
 
 of_profile : (file : File) (outcome : Result Reading Refusal) → IsKnown (answer_by file outcome)
@@ -129,38 +156,61 @@ of_files : (outcome : Result File GatherError) → IsOfFiles outcome → IsKnown
 of_files (Ok file) o = of_profile file (reading_of file)
 of_files (Err e) o = of_error e o
 
--- ---- the answer to `check`
+-- ---- the answers to two files
 
 same_known : {a b : Answer} → a ≡ b → IsKnown b → IsKnown a
 same_known e h = subst IsKnown (sym e) h
 
-of_fault : (sig : Signature) (fault : Option Condition) → IsKnown (verdict sig fault)
-of_fault sig None = tt
-of_fault sig (Some fault) = tt
+module _ (OfBytes : Signature → File → List ℕ → Answer → Type 0) (known : (sig : Signature) (file : File) (bytes : List ℕ) (answer : Answer) → OfBytes sig file bytes answer → IsKnown answer) where
+  of_loaded : (sig : Signature) (file : File) (loaded : Result (List ℕ) GatherError) (answer : Answer) → IsOfFiles loaded → AnswersLoaded (OfBytes sig file) loaded answer → IsKnown answer
+  of_loaded sig file (Err error) answer o e = same_known e (of_error error o)
+  of_loaded sig file (Ok bytes) answer o h = known sig file bytes answer h
 
-of_verdict : (sig : Signature) (file : File) {name bytes : List ℕ} {reading : Result KripkeStructure Status} (answer : Answer)
-    → ReadsStructure sig name bytes reading → IsVerdict sig file reading answer → IsKnown answer
-of_verdict sig file answer (not_lexed at bad) e = same_known e tt
-of_verdict sig file answer (not_text tokens error lexed h other) e = same_known e (of_text error other)
-of_verdict sig file answer (read K spells few) v = same_known v.2 (of_fault sig v.0)
+  of_reading : (file : File) (read : Result Reading Refusal) (loaded : Result (List ℕ) GatherError) (answer : Answer) → IsOfFiles loaded → AnswersReading (λ sig. OfBytes sig file) read loaded answer → IsKnown answer
+  of_reading file (Err refusal) loaded answer o e = same_known e (of_refusal refusal)
+  of_reading file (Ok problem) loaded answer o h = of_loaded problem.signature file loaded answer o h
 
-of_loaded : (sig : Signature) (file : File) (name : List ℕ) (loaded : Result (List ℕ) GatherError) (answer : Answer) → IsOfFiles loaded → ChecksLoaded sig file name loaded answer → IsKnown answer
-of_loaded sig file name (Err error) answer o e = same_known e (of_error error o)
-of_loaded sig file name (Ok bytes) answer o h = of_verdict sig file answer h.reads h.judged
+  of_two : (outcome : Result File GatherError) (loaded : Result (List ℕ) GatherError) (answer : Answer) → IsOfFiles outcome → IsOfFiles loaded → AnswersTwo OfBytes outcome loaded answer → IsKnown answer
+  of_two (Err error) loaded answer o l e = same_known e (of_error error o)
+  of_two (Ok file) loaded answer o l h = of_reading file (reading_of file) loaded answer l h
 
-of_reading : (file : File) (outcome : Result Reading Refusal) (name : List ℕ) (loaded : Result (List ℕ) GatherError) (answer : Answer) → IsOfFiles loaded → ChecksBy file outcome name loaded answer → IsKnown answer
-of_reading file (Err refusal) name loaded answer o e = same_known e (of_refusal refusal)
-of_reading file (Ok problem) name loaded answer o h = of_loaded problem.signature file name loaded answer o h
+-- what a second file is read as
 
-of_check : (outcome : Result File GatherError) (name : List ℕ) (loaded : Result (List ℕ) GatherError) (answer : Answer) → IsOfFiles outcome → IsOfFiles loaded → Checks outcome name loaded answer → IsKnown answer
-of_check (Err error) name loaded answer o l e = same_known e (of_error error o)
-of_check (Ok file) name loaded answer o l h = of_reading file (reading_of file) name loaded answer l h
+abbrev IsKnownReading : Result KripkeStructure Status → Type 0
+IsKnownReading (Ok K) = Unit {0}
+IsKnownReading (Err s) = IsRefusal s
+
+of_structure : {sig : Signature} {name bytes : List ℕ} {reading : Result KripkeStructure Status} → ReadsStructure sig name bytes reading → IsKnownReading reading
+of_structure (structure.not_lexed at bad) = tt
+of_structure (structure.not_text tokens error lexed h other) = of_text error other
+of_structure (structure.read K spells few) = tt
+
+of_interpretation : {sig : Signature} {name bytes : List ℕ} {reading : Result KripkeStructure Status} → ReadsInterpretation sig name bytes reading → IsKnownReading reading
+of_interpretation (interpretation.not_lexed at bad) = tt
+of_interpretation (interpretation.not_read tokens k lexed fault) = tt
+of_interpretation {sig = sig} (interpretation.not_given file e spells is) = of_given e (λ same. no_memory (classical_signature_of sig) file (is ∙ ap Err same))
+of_interpretation (interpretation.given K gives) = tt
+
+of_fault : (sig : Signature) (text : List ℕ) (fault : Option Condition) → IsKnown (verdict sig text fault)
+of_fault sig text None = tt
+of_fault sig text (Some fault) = tt
+
+of_verdict : (sig : Signature) (file : File) (text : KripkeStructure → List ℕ) (reading : Result KripkeStructure Status) (answer : Answer) → IsKnownReading reading → IsVerdict sig file text reading answer → IsKnown answer
+of_verdict sig file text (Err s) answer o e = same_known e o
+of_verdict sig file text (Ok K) answer o v = same_known v.2 (of_fault sig (text K) v.0)
+
+of_check : (name : List ℕ) (sig : Signature) (file : File) (bytes : List ℕ) (answer : Answer) → ChecksBytes sig file name bytes answer → IsKnown answer
+of_check name sig file bytes answer h = of_verdict sig file (λ K. countermodel_line) h.reading answer (of_structure h.reads) h.judged
+
+of_lift : (name : List ℕ) (sig : Signature) (file : File) (bytes : List ℕ) (answer : Answer) → LiftsBytes sig file name bytes answer → IsKnown answer
+of_lift name sig file bytes answer h = of_verdict sig file (ktext sig) h.reading answer (of_interpretation h.reads) h.judged
 
 -- ---- the answer to the words
 
 known : (told : Option Files) (form : Form) (answer : Answer) → AnswersForm told form answer → IsKnown answer
 known told (Embed name) answer h = same_known h.answer_is (of_files h.outcome h.of_files)
-known told (Check name second) answer h = of_check h.outcome second h.bytes answer h.of_files h.loaded_of_files h.checks
+known told (Check name second) answer h = of_two (λ sig file. ChecksBytes sig file second) (of_check second) h.outcome h.bytes answer h.of_files h.loaded_of_files h.answers
+known told (Lift name second) answer h = of_two (λ sig file. LiftsBytes sig file second) (of_lift second) h.outcome h.bytes answer h.of_files h.loaded_of_files h.answers
 known told Later answer e = same_known e tt
 known told NoForm answer e = same_known e tt
 

@@ -4,15 +4,12 @@ use Rattle.std.specs.Prelude.{◌⊎◌}
 use mathlib.Core.Logic.{inl, inr}
 use Rattle.nxf_base.specs.Causes.{Rose}
 use Rattle.nxf_base.specs.Files.{Files}
-use Rattle.nxf_base.specs.Message.{message_of}
-use Rattle.nxf_base.specs.Shelf.{Shelf}
-use Rattle.nxf_base.specs.Write.{Appends}
 use Rattle.nxf_base.specs.declared.status.Status.{Status}
 use Rattle.nxf_base.specs.declared.status.Status.TheVariants as status
 use Rattle.nxf_include.specs.Roots.{KeepEach}
 use Rattle.answer_definitions.specs.Answer.{Answer}
 use Rattle.nxf_run.specs.Answer.{IsAnswer}
-use Rattle.nxf_run.specs.Ending.{AppendsSome, AppendsSomeOf, GivesSome, GivesNothing, NamesFile, Follows, MayEnd, TellsSome, Tells, Reports, NothingFailed, Completes}
+use Rattle.nxf_run.specs.Ending.{AppendsSomeOf, GivesSome, GivesNothing, NamesFile, Follows, MayEnd, TellsSome, Tells, Reports, Completes}
 use Rattle.nxf_run.specs.Run.{Run, files_told}
 use Rattle.nxf_run.specs.steps.Preparing.{Refuses, IsOfLoading, HasLoadCause}
 use Rattle.nxf_run.proofs.Answering.{IsRefusal, one_answer, some_answer, known_refusal}

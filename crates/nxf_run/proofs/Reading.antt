@@ -9,7 +9,7 @@ use Rattle.nxf_base.specs.declared.status.Status.TheVariants as status
 use Rattle.nxf_tree.specs.declared.tree.PartEntry.{PartEntry}
 use Rattle.nxf_tree.specs.declared.tree.Signature.{Signature}
 use Rattle.nxf_tree.specs.declared.tree.File.{File}
-use Rattle.nxf_tree.specs.Profile.{Reading, Refusal, RefusedRole, RefusedSpec, RefusedSort, reading_of}
+use Rattle.nxf_tree.specs.Profile.{Reading, Refusal, RefusedRole, RefusedSpec, RefusedSort}
 use Rattle.nxf_tree.specs.Problem.{problem_of}
 use Rattle.nxf_tree.specs.Structures.{KripkeStructure}
 use Rattle.nxf_tree.specs.Text.{text_of}
@@ -29,18 +29,28 @@ use Rattle.formula_cells.specs.Checked.{CheckedFile}
 use Rattle.formula_cells.specs.ReadAs.{IsReadAs}
 use Rattle.kripke_text_definitions.specs.declared.error.KripkeTextError.{KripkeTextError}
 use Rattle.kripke_text_definitions.specs.declared.error.KripkeTextError.TheVariants as text
-use Rattle.nxf_include.specs.Roots.{KeepEach, SomeFaultRose, EachMissRose, files_of}
-use Rattle.nxf_include.proofs.CallerLemmas.{Keeps-files, fault_after, misses_after}
-use Rattle.answer_definitions.specs.Answer.{OrMemory, status_of_gathering, status_of_refusal}
-use Rattle.answer_definitions.specs.Check.{ChecksBytes, ChecksBy, ChecksText, Checks, IsVerdict, verdict, countermodel_line}
-use Rattle.answer_definitions.specs.KripkeFile.{ReadsStructure, not_lexed, not_text, read, status_of_text}
-use Rattle.answer_definitions.specs.ProblemFile.{IsReading, IsProfileRefusal}
+use Rattle.kripke_text_definitions.specs.KripkeText.{ktext}
+use Rattle.interpretation_definitions.specs.declared.error.InterpError.{InterpError}
+use Rattle.interpretation_definitions.specs.declared.error.InterpError.TheVariants as interp
+use Rattle.nxf_include.specs.Roots.{KeepEach, SomeFaultRose, EachMissRose}
+use Rattle.nxf_include.proofs.CallerLemmas.{fault_after, misses_after}
+use Rattle.answer_definitions.specs.Answer.{Answer, OrMemory, status_of_gathering, status_of_refusal}
+use Rattle.answer_definitions.specs.Check.{ChecksBytes, Checks, countermodel_line}
+use Rattle.answer_definitions.specs.InterpretationFile as interpretation
+use Rattle.answer_definitions.specs.InterpretationFile.{ReadsInterpretation, status_of_interpretation}
+use Rattle.answer_definitions.specs.KripkeFile as structure
+use Rattle.answer_definitions.specs.KripkeFile.{ReadsStructure, status_of_text}
+use Rattle.answer_definitions.specs.Lift.{Lifts, LiftsBytes}
+use Rattle.answer_definitions.specs.ProblemFile.{IsReading, IsProfileRefusal, OfItsProblem}
+use Rattle.answer_definitions.specs.TwoFiles.{AnswersReading, AnswersTwo}
+use Rattle.answer_definitions.specs.Verdict.{IsVerdict, verdict}
 use Rattle.answer_laws.proofs.OneCheck.{countermodel_told}
-use Rattle.nxf_run.specs.Forms.{Form, form_of, Embed, Check, Later, NoForm}
-use Rattle.nxf_run.specs.Answer.{IsAnswer, AnswersForm, Gathered, Loaded, answer_by}
+use Rattle.answer_laws.proofs.OneLift.{lift_told}
+use Rattle.nxf_run.specs.Forms.{Form, form_of, Embed, Check, Lift, Later, NoForm}
+use Rattle.nxf_run.specs.Answer.{IsAnswer, AnswersForm, AnswersFiles, Gathered, Loaded, answer_by}
 use Rattle.nxf_run.specs.Ending.{LoadsFiles, NamesFile}
-use Rattle.nxf_run.specs.Meaning.{IsTranslation, EmbedMeans, CheckMeans, TextMeans}
-use Rattle.nxf_run.specs.steps.Preparing.{EmbedRefuses, CheckRefuses, RefusesBy, Refuses, IsOfLoading, HasLoadCause}
+use Rattle.nxf_run.specs.Meaning.{IsTranslation, EmbedMeans, FilesMean, TextMeans}
+use Rattle.nxf_run.specs.steps.Preparing.{AreLoaded, IsFirstRefusal, not_gathered, not_in_profile, not_loaded, LoadRefuses, EmbedRefuses, RefusesBy, Refuses, HasLoadCause}
 use Rattle.nxf_run.proofs.Answering.{some_loaded}
 
 -- ---- the translation of a file
@@ -119,21 +129,48 @@ of_text (text.TooManyWorlds n) = λ before now. tt
 of_text (text.TooBig c) = λ before now. tt
 of_text text.Memory = λ before now. tt
 
+of_given : (e : InterpError) → IsOfNoLoad (status_of_interpretation e)
+of_given (interp.Kind kind) = λ before now. tt
+of_given (interp.TooManyWorlds n) = λ before now. tt
+of_given (interp.TooBig c) = λ before now. tt
+of_given interp.Memory = λ before now. tt
+
 abbrev refusal : Status → Result (List ℕ) Status
 refusal s = Err s
 
 refused_status : {s t : Status} → refusal s ≡ refusal t → s ≡ t
 refused_status e = cc
 
-of_fault : (sig : Signature) (fault : Option Condition) (s : Status) → Err s ≡ verdict sig fault → IsOfNoLoad s
-of_fault sig None s e = absurd cc
-of_fault sig (Some fault) s e = same_no_load (refused_status e) (λ before now. tt)
+-- what a second file is read as comes of no load
 
-of_verdict : (sig : Signature) (file : File) {name bytes : List ℕ} {reading : Result KripkeStructure Status} (s : Status)
-    → ReadsStructure sig name bytes reading → IsVerdict sig file reading (Err s) → IsOfNoLoad s
-of_verdict sig file s (not_lexed at bad) e = same_no_load (refused_status e) (λ before now. tt)
-of_verdict sig file s (not_text tokens error lexed h other) e = same_no_load (refused_status e) (of_text error)
-of_verdict sig file s (read K spells few) v = of_fault sig v.0 s v.2
+abbrev IsReadingOfNoLoad : Result KripkeStructure Status → Type 0
+IsReadingOfNoLoad (Ok K) = Unit {0}
+IsReadingOfNoLoad (Err s) = IsOfNoLoad s
+
+of_structure : {sig : Signature} {name bytes : List ℕ} {reading : Result KripkeStructure Status} → ReadsStructure sig name bytes reading → IsReadingOfNoLoad reading
+of_structure (structure.not_lexed at bad) = λ before now. tt
+of_structure (structure.not_text tokens error lexed h other) = of_text error
+of_structure (structure.read K spells few) = tt
+
+of_interpretation : {sig : Signature} {name bytes : List ℕ} {reading : Result KripkeStructure Status} → ReadsInterpretation sig name bytes reading → IsReadingOfNoLoad reading
+of_interpretation (interpretation.not_lexed at bad) = λ before now. tt
+of_interpretation (interpretation.not_read tokens k lexed fault) = λ before now. tt
+of_interpretation (interpretation.not_given file e spells is) = of_given e
+of_interpretation (interpretation.given K gives) = tt
+
+of_fault : (sig : Signature) (text : List ℕ) (fault : Option Condition) (s : Status) → Err s ≡ verdict sig text fault → IsOfNoLoad s
+of_fault sig text None s e = absurd cc
+of_fault sig text (Some fault) s e = same_no_load (refused_status e) (λ before now. tt)
+
+of_verdict : (sig : Signature) (file : File) (text : KripkeStructure → List ℕ) (reading : Result KripkeStructure Status) (s : Status) → IsReadingOfNoLoad reading → IsVerdict sig file text reading (Err s) → IsOfNoLoad s
+of_verdict sig file text (Err t) s o e = same_no_load (refused_status e) o
+of_verdict sig file text (Ok K) s o v = of_fault sig (text K) v.0 s v.2
+
+pub check_no_load : (name : List ℕ) (sig : Signature) (file : File) (bytes : List ℕ) (s : Status) → ChecksBytes sig file name bytes (Err s) → IsOfNoLoad s
+check_no_load name sig file bytes s h = of_verdict sig file (λ K. countermodel_line) h.reading s (of_structure h.reads) h.judged
+
+pub lift_no_load : (name : List ℕ) (sig : Signature) (file : File) (bytes : List ℕ) (s : Status) → LiftsBytes sig file name bytes (Err s) → IsOfNoLoad s
+lift_no_load name sig file bytes s h = of_verdict sig file (ktext sig) h.reading s (of_interpretation h.reads) h.judged
 
 -- ---- the answer to `embed`
 
@@ -164,7 +201,7 @@ module _ (told : Option Files) (name : List ℕ) where
     pub embed_means : (text : List ℕ) → IsTranslation file text → EmbedMeans told name text
     embed_means text t = record { file = file; gathered = gathered; translation = t }
 
--- ---- the answer to `check`
+-- ---- two files are loaded
 
 turned : (told : Option Files) (name : List ℕ) (bytes : Result (List ℕ) GatherError) → IfSome told (λ files. loading.loaded files name ≡ bytes) → Loaded told name bytes
 turned None name bytes h = tt
@@ -177,72 +214,88 @@ refused_load told name e o (inr (inl d)) = absurd (subst refusals.IsRefusalOfFil
 refused_load told name e o (inr (inr d)) = absurd (subst refusals.IsRefusalOfFiles d o)
 
 module _ (told : Option Files) (name second : List ℕ) where
-  pub check_ungathered : (e : GatherError) → refusals.Meets told (λ files. Gathers files name) (Err e) → CheckRefuses told name second (status_of_gathering e)
-  check_ungathered e meets = by_cause (from_files_or_outside e)
+  pub load_ungathered : (e : GatherError) → refusals.Meets told (λ files. Gathers files name) (Err e) → LoadRefuses told name second (status_of_gathering e)
+  load_ungathered e meets = by_cause (from_files_or_outside e)
     where
-      by_cause : refusals.IsRefusalOfFiles e ⊎ ((status_of_gathering e ≡ status.ReadFault) ⊎ (status_of_gathering e ≡ status.Memory)) → CheckRefuses told name second (status_of_gathering e)
-      by_cause (inl o) =
-          let l = some_loaded told second in
-          inl (record { outcome = Err e; gathered = refused_gathering told name e o meets; of_files = o; bytes = l.0; loaded = l.1; loaded_of_files = l.2; checks = refl })
+      by_cause : refusals.IsRefusalOfFiles e ⊎ ((status_of_gathering e ≡ status.ReadFault) ⊎ (status_of_gathering e ≡ status.Memory)) → LoadRefuses told name second (status_of_gathering e)
+      by_cause (inl o) = inl (not_gathered e (refused_gathering told name e o meets) o)
       by_cause (inr outside) = inr outside
 
   module _ (file : File) (gathered : Gathered told name (Ok file)) where
-    pub check_refused : (s : Status) → OrMemory (IsProfileRefusal file) s → CheckRefuses told name second s
-    check_refused s (inl h) =
+    pub load_refused : (s : Status) → OrMemory (IsProfileRefusal file) s → LoadRefuses told name second s
+    load_refused s (inl h) = inl (subst (IsFirstRefusal told name second) (sym h.status_is) (not_in_profile file h.refusal gathered h.refused))
+    load_refused s (inr e) = inr (inr e)
+
+    module _ (parts : List PartEntry) (checked : CheckedFile) (reads : IsReading file parts checked) where
+      pub load_unloaded : (e : GatherError) → refusals.Refuses told (λ files. loading.loaded files second) e → LoadRefuses told name second (status_of_gathering e)
+      load_unloaded e refuses = by_cause (from_files_or_outside e)
+        where
+          by_cause : refusals.IsRefusalOfFiles e ⊎ ((status_of_gathering e ≡ status.ReadFault) ⊎ (status_of_gathering e ≡ status.Memory)) → LoadRefuses told name second (status_of_gathering e)
+          by_cause (inl o) = inl (not_loaded file reads.problem e gathered reads.in_profile (refused_load told second e o refuses) o)
+          by_cause (inr outside) = inr outside
+
+      pub are_loaded : (bytes : List ℕ) → IfSome told (λ files. loading.loaded files second ≡ Ok bytes) → AreLoaded told name second parts checked bytes
+      are_loaded bytes loaded = record { file = file; gathered = gathered; reads = reads; loaded = turned told second (Ok bytes) loaded }
+
+  -- ---- the answer to two files
+
+  module _ (OfBytes : Signature → File → List ℕ → Answer → Type 0) where
+    -- each command with two files answers with their first refusal
+    first_refusal : {s : Status} → IsFirstRefusal told name second s → AnswersFiles told name second (AnswersTwo OfBytes) (Err s)
+    first_refusal (not_gathered e gathered o) =
         let l = some_loaded told second in
-        inl (record {
+        record { outcome = Err e; gathered = gathered; of_files = o; bytes = l.0; loaded = l.1; loaded_of_files = l.2; answers = refl }
+    first_refusal (not_in_profile file refused gathered e) =
+        let l = some_loaded told second in
+        record {
           outcome = Ok file;
           gathered = gathered;
           of_files = tt;
           bytes = l.0;
           loaded = l.1;
           loaded_of_files = l.2;
-          checks = subst (λ (r : Result Reading Refusal). ChecksBy file r second l.0 (Err s)) (sym h.refused) (ap Err h.status_is);
-        })
-    check_refused s (inr e) = inr (inr e)
+          answers = subst (λ (r : Result Reading Refusal). AnswersReading (λ sig. OfBytes sig file) r l.0 (Err (status_of_refusal refused))) (sym e) refl;
+        }
+    first_refusal (not_loaded file problem e gathered in_profile loaded o) = record {
+      outcome = Ok file;
+      gathered = gathered;
+      of_files = tt;
+      bytes = Err e;
+      loaded = loaded;
+      loaded_of_files = o;
+      answers = subst (λ (r : Result Reading Refusal). AnswersReading (λ sig. OfBytes sig file) r (Err e) (Err (status_of_gathering e))) (sym in_profile) refl;
+    }
 
-    module _ (parts : List PartEntry) (checked : CheckedFile) (reads : IsReading file parts checked) where
-      pub check_unloaded : (e : GatherError) → refusals.Refuses told (λ files. loading.loaded files second) e → CheckRefuses told name second (status_of_gathering e)
-      check_unloaded e refuses = by_cause (from_files_or_outside e)
-        where
-          by_cause : refusals.IsRefusalOfFiles e ⊎ ((status_of_gathering e ≡ status.ReadFault) ⊎ (status_of_gathering e ≡ status.Memory)) → CheckRefuses told name second (status_of_gathering e)
-          by_cause (inl o) = inl (record {
-            outcome = Ok file;
-            gathered = gathered;
-            of_files = tt;
-            bytes = Err e;
-            loaded = refused_load told second e o refuses;
-            loaded_of_files = o;
-            checks = subst (λ (r : Result Reading Refusal). ChecksBy file r second (Err e) (Err (status_of_gathering e))) (sym reads.in_profile) refl;
-          })
-          by_cause (inr outside) = inr outside
+    pub refused_first : (s : Status) → LoadRefuses told name second s → RefusesBy (AnswersFiles told name second (AnswersTwo OfBytes)) s
+    refused_first s (inl h) = inl (first_refusal h)
+    refused_first s (inr outside) = inr outside
 
-      module _ (bytes : List ℕ) (loaded : IfSome told (λ files. loading.loaded files second ≡ Ok bytes)) where
-        checks : (answer : Result (List ℕ) Status) → ChecksText checked parts second bytes answer → Checks (Ok file) second (Ok bytes) answer
-        checks answer h =
-            subst (λ (r : Result Reading Refusal). ChecksBy file r second (Ok bytes) answer) (sym reads.in_profile)
-            (subst (λ (sig : Signature). ChecksBytes sig file second bytes answer) (sym reads.signature_is) (h file reads))
+    module _ (parts : List PartEntry) (checked : CheckedFile) (bytes : List ℕ) (are : AreLoaded told name second parts checked bytes) where
+      answers : (answer : Answer) → OfItsProblem checked parts (λ file. OfBytes checked.signature file bytes answer) → AnswersTwo OfBytes (Ok are.file) (Ok bytes) answer
+      answers answer h =
+          subst (λ (r : Result Reading Refusal). AnswersReading (λ sig. OfBytes sig are.file) r (Ok bytes) answer) (sym are.reads.in_profile)
+          (subst (λ (sig : Signature). OfBytes sig are.file bytes answer) (sym are.reads.signature_is) (h are.file are.reads))
 
-        pub check_means : (line : List ℕ) → ChecksText checked parts second bytes (Ok line) → CheckMeans told name second line
-        check_means line h =
-            let told_so = (countermodel_told file second bytes line).0 (checks (Ok line) h) in
-            record { line = told_so.0; file = file; gathered = gathered; bytes = bytes; loaded = turned told second (Ok bytes) loaded; countermodel = told_so.1 }
+      pub files_mean : (Means : File → List ℕ → List ℕ → Type 0) (text : List ℕ) → ((file : File) → AnswersTwo OfBytes (Ok file) (Ok bytes) (Ok text) → Means file bytes text)
+          → OfItsProblem checked parts (λ file. OfBytes checked.signature file bytes (Ok text)) → FilesMean told name second Means text
+      files_mean Means text tell h = record { file = are.file; gathered = are.gathered; bytes = bytes; loaded = are.loaded; means = tell are.file (answers (Ok text) h) }
 
-        pub check_not : (s : Status) → OrMemory (λ s. ChecksText checked parts second bytes (Err s)) s → CheckRefuses told name second s
-        check_not s (inl h) = inl (record {
-          outcome = Ok file;
-          gathered = gathered;
-          of_files = tt;
-          bytes = Ok bytes;
-          loaded = turned told second (Ok bytes) loaded;
-          loaded_of_files = tt;
-          checks = checks (Err s) h;
-        })
-        check_not s (inr e) = inr (inr e)
+      pub refused_then : (s : Status) → OrMemory (λ s. OfItsProblem checked parts (λ file. OfBytes checked.signature file bytes (Err s))) s → RefusesBy (AnswersFiles told name second (AnswersTwo OfBytes)) s
+      refused_then s (inl h) = inl (record {
+        outcome = Ok are.file;
+        gathered = are.gathered;
+        of_files = tt;
+        bytes = Ok bytes;
+        loaded = are.loaded;
+        loaded_of_files = tt;
+        answers = answers (Err s) h;
+      })
+      refused_then s (inr e) = inr (inr e)
 
-        pub text_no_load : (s : Status) → OrMemory (λ s. ChecksText checked parts second bytes (Err s)) s → IsOfNoLoad s
-        text_no_load s (inl h) = let k = h file reads in of_verdict checked.signature file s k.reads k.judged
-        text_no_load s (inr e) = same_no_load e (λ before now. tt)
+      pub then_no_load : ((sig : Signature) (file : File) (s : Status) → OfBytes sig file bytes (Err s) → IsOfNoLoad s)
+          → (s : Status) → OrMemory (λ s. OfItsProblem checked parts (λ file. OfBytes checked.signature file bytes (Err s))) s → IsOfNoLoad s
+      then_no_load none s (inl h) = none checked.signature are.file s (h are.file are.reads)
+      then_no_load none s (inr e) = same_no_load e (λ before now. tt)
 
 -- ---- the answer to the words
 
@@ -256,20 +309,26 @@ module _ (told : Option Files) (words : List (List ℕ)) (form : Form) (is : for
 pub names_file : (words : List (List ℕ)) (form : Form) → form ≡ form_of words → LoadsFiles form → NamesFile words
 names_file words form is h = subst LoadsFiles is h
 
--- a text is the answer
-text_answers : (told : Option Files) (form : Form) (text : List ℕ) → TextMeans told form text → AnswersForm told form (Ok text)
-text_answers told (Embed name) text h =
-    let t = h.translation in
-    record { outcome = Ok h.file; gathered = h.gathered; of_files = tt; answer_is = ap Ok t.text_is ∙ sym (ap (answer_by h.file) t.in_profile) }
-text_answers told (Check name second) text h = record {
+-- a text is the answer to two files
+of_two_files : (told : Option Files) (name second : List ℕ) (Answers : Result File GatherError → Result (List ℕ) GatherError → Answer → Type 0) (Means : File → List ℕ → List ℕ → Type 0) (text : List ℕ)
+    → ((file : File) (bytes : List ℕ) → Means file bytes text → Answers (Ok file) (Ok bytes) (Ok text)) → FilesMean told name second Means text → AnswersFiles told name second Answers (Ok text)
+of_two_files told name second Answers Means text tell h = record {
   outcome = Ok h.file;
   gathered = h.gathered;
   of_files = tt;
   bytes = Ok h.bytes;
   loaded = h.loaded;
   loaded_of_files = tt;
-  checks = (countermodel_told h.file second h.bytes text).1 (h.line, h.countermodel);
+  answers = tell h.file h.bytes h.means;
 }
+
+-- a text is the answer
+text_answers : (told : Option Files) (form : Form) (text : List ℕ) → TextMeans told form text → AnswersForm told form (Ok text)
+text_answers told (Embed name) text h =
+    let t = h.translation in
+    record { outcome = Ok h.file; gathered = h.gathered; of_files = tt; answer_is = ap Ok t.text_is ∙ sym (ap (answer_by h.file) t.in_profile) }
+text_answers told (Check name second) text h = of_two_files told name second (λ outcome bytes. Checks outcome second bytes) _ text (λ file bytes. (countermodel_told file second bytes text).1) h
+text_answers told (Lift name second) text h = of_two_files told name second (λ outcome bytes. Lifts outcome second bytes) _ text (λ file bytes. (lift_told file second bytes text).1) h
 text_answers told Later text h = absurd h
 text_answers told NoForm text h = absurd h
 

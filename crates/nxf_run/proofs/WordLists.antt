@@ -1,6 +1,6 @@
 -- Numerals.
-use Rattle.std.proofs.Common.{◌≡◌, ◌≢◌, ◌≤◌, ◌<◌, ◌+◌, ◌-◌, ℕ, suc, Bool, true, false, List, [], ◌∷◌, get_or, length, refl, arith, decimal, cond}
-use Rattle.std.specs.Prelude.{◌||◌, ◌&&◌, None}
+use Rattle.std.proofs.Common.{◌≡◌, ◌≤◌, ◌<◌, ◌+◌, ◌-◌, ℕ, suc, Bool, false, List, refl, arith, decimal}
+use Rattle.std.specs.Prelude.{◌||◌}
 use Rattle.std.specs.List.{list_any, range_with_len}
 use Rattle.nxf_tree.specs.Names.{same_text}
 use Rattle.nxf_run.specs.Forms.{is_number}

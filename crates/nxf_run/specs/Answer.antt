@@ -12,7 +12,8 @@ use Rattle.syntax_definitions.specs.Loading as loading
 use Rattle.syntax_definitions.specs.Refusals.{IsOfFiles}
 use Rattle.answer_definitions.specs.Answer.{Answer, status_of_gathering, status_of_refusal}
 use Rattle.answer_definitions.specs.Check.{Checks}
-use Rattle.nxf_run.specs.Forms.{Form, form_of, Embed, Check, Later, NoForm}
+use Rattle.answer_definitions.specs.Lift.{Lifts}
+use Rattle.nxf_run.specs.Forms.{Form, form_of, Embed, Check, Lift, Later, NoForm}
 
 -- the classical problem of a file in the profile as text, or the first refusal of its roles, its logic statement and its sorts
 abbrev pub answer_by : File → Result Reading Refusal → Answer
@@ -39,20 +40,28 @@ pub record AnswersEmbed (told : Option Files) (name : List ℕ) (answer : Answer
   pub of_files : IsOfFiles outcome
   pub answer_is : answer ≡ answer_to outcome
 
--- the answer to `check`: that to the gathered file and to the second one as it is loaded
-pub record AnswersCheck (told : Option Files) (name second : List ℕ) (answer : Answer) : Type 0 where
+-- the answer to a command with two files: that to the gathered file and to the second one as it is loaded
+pub record AnswersFiles (told : Option Files) (name second : List ℕ) (AnswersBoth : Result File GatherError → Result (List ℕ) GatherError → Answer → Type 0)
+    (answer : Answer) : Type 0 where
   pub outcome : Result File GatherError
   pub gathered : Gathered told name outcome
   pub of_files : IsOfFiles outcome
   pub bytes : Result (List ℕ) GatherError
   pub loaded : Loaded told second bytes
   pub loaded_of_files : IsOfFiles bytes
-  pub checks : Checks outcome second bytes answer
+  pub answers : AnswersBoth outcome bytes answer
+
+abbrev pub AnswersCheck : Option Files → List ℕ → List ℕ → Answer → Type 0
+AnswersCheck told name second = AnswersFiles told name second (λ outcome bytes. Checks outcome second bytes)
+
+abbrev pub AnswersLift : Option Files → List ℕ → List ℕ → Answer → Type 0
+AnswersLift told name second = AnswersFiles told name second (λ outcome bytes. Lifts outcome second bytes)
 
 -- the answer to words of each form
 abbrev pub AnswersForm : Option Files → Form → Answer → Type 0
 AnswersForm told (Embed name) answer = AnswersEmbed told name answer
 AnswersForm told (Check name second) answer = AnswersCheck told name second answer
+AnswersForm told (Lift name second) answer = AnswersLift told name second answer
 AnswersForm told Later answer = answer ≡ Err status.NotYet
 AnswersForm told NoForm answer = answer ≡ Err status.Usage
 

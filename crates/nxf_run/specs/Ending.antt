@@ -8,7 +8,7 @@ use Rattle.nxf_base.specs.declared.status.Status.{Status}
 use Rattle.nxf_base.specs.declared.status.Status.TheVariants as status
 use Rattle.nxf_include.specs.Roots.{KeepEach, SomeFaultRose, EachMissRose}
 use Rattle.answer_definitions.specs.Answer.{Answer}
-use Rattle.nxf_run.specs.Forms.{Form, form_of, Embed, Check, Later, NoForm}
+use Rattle.nxf_run.specs.Forms.{Form, form_of, Embed, Check, Lift, Later, NoForm}
 use Rattle.nxf_run.specs.Answer.{IsAnswer}
 use Rattle.nxf_run.specs.Meaning.{TextMeans}
 use Rattle.nxf_run.specs.Run.{Run, files_told}
@@ -58,6 +58,7 @@ Follows run refusal = Answers run (Err refusal) × GivesNothing run
 abbrev pub LoadsFiles : Form → Type 0
 LoadsFiles (Embed name) = Unit {0}
 LoadsFiles (Check name second) = Unit {0}
+LoadsFiles (Lift name second) = Unit {0}
 LoadsFiles Later = ⊥
 LoadsFiles NoForm = ⊥
 

@@ -1,5 +1,5 @@
 -- The forms of words: which commands there are, and what they name.
-use Rattle.std.specs.Prelude.{ℕ, Bool, true, false, ◌&&◌, ◌||◌, not, nat_eq, if◌then◌else◌, List, [], ◌∷◌, codes, decimal}
+use Rattle.std.specs.Prelude.{ℕ, Bool, false, ◌&&◌, ◌||◌, not, nat_eq, if◌then◌else◌, List, [], ◌∷◌, codes, decimal}
 use Rattle.std.specs.List.{list_any, range_with_len}
 use Rattle.nxf_tree.specs.Names.{same_text}
 
@@ -9,6 +9,8 @@ pub data Form : Type 0 where
   Embed : (file : List ℕ) → Form
   -- whether the structure of a Kripke text is a countermodel of the file
   Check : (file kripke : List ℕ) → Form
+  -- the Kripke text of the structure that an interpretation gives, where it is a countermodel of the file
+  Lift : (file interpretation : List ℕ) → Form
   -- one of the other commands, which are not answered yet
   Later : Form
   -- nothing that has an answer
@@ -35,7 +37,8 @@ with_one_word command word =
 abbrev pub with_two_files : List ℕ → List ℕ → List ℕ → Form
 with_two_files command file other =
     if same_text (codes "check") command then Check file other
-    else (if same_text (codes "lift") command || same_text (codes "lower") command then Later else NoForm)
+    else (if same_text (codes "lift") command then Lift file other
+    else (if same_text (codes "lower") command then Later else NoForm))
 
 abbrev pub with_two_words : List ℕ → List ℕ → List ℕ → Form
 with_two_words command file other = if is_file file && is_file other then with_two_files command file other else NoForm

@@ -1,7 +1,5 @@
 -- What contracts see of a run.
 use Rattle.std.specs.Prelude.{ℕ, List, map, Option}
-use Rattle.std.specs.declared.alloc.Global.{Global}
-use Rattle.std.specs.declared.dyn_box.DynBox.{DynBox}
 use Rattle.nxf_base.specs.Files.{Files}
 use Rattle.nxf_base.specs.Shelf.{Shelf}
 use Rattle.nxf_base.specs.declared.sink.Sink as sink

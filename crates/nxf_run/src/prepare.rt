@@ -1,5 +1,5 @@
 //! What is to be written, before a byte of it is.
-ghost use Rattle.std.specs.Prelude.{◌≡◌, IsTrue, IfOk, IfErr, MatchResult, map};
+ghost use Rattle.std.specs.Prelude.{◌≡◌, ◌≤◌, IsTrue, IfOk, IfErr, MatchResult, length, map};
 ghost use Rattle.nxf_tree.specs.Text.{text_of, is_printable};
 ghost use Rattle.nxf_include.specs.Roots.{files_of, KeepEach};
 ghost use Rattle.syntax_definitions.specs.Promises.{IsFine};
@@ -8,14 +8,17 @@ ghost use Rattle.answer_definitions.specs.Answer.{OrMemory};
 ghost use Rattle.answer_definitions.specs.ProblemFile.{IsProfileRefusal};
 ghost use Rattle.nxf_run.specs.Ending.{NamesFile};
 ghost use Rattle.nxf_run.specs.Forms.{form_of};
-ghost use Rattle.nxf_run.specs.Meaning.{IsTranslation, EmbedMeans, CheckMeans, TextMeans};
-ghost use Rattle.nxf_run.specs.steps.Preparing.{EmbedRefuses, CheckRefuses, Refuses, IsOfLoading, HasLoadCause};
+ghost use Rattle.nxf_run.specs.Meaning.{IsTranslation, EmbedMeans, CheckMeans, LiftMeans, TextMeans};
+ghost use Rattle.nxf_run.specs.steps.Preparing.{AreLoaded, LoadRefuses, EmbedRefuses, CheckRefuses, LiftRefuses, Refuses, IsOfLoading, HasLoadCause};
 
 use crate::words::{Command, command_of};
 use check_answer::check_text;
+use formula_cells::Checked;
+use lift_answer::lift_text;
 use nxf_base::{Library, Memory, Status, Text};
 use nxf_embed::embed;
 use nxf_include::{GatherError, gather_from, load_one_from};
+use nxf_roles::Parts;
 use nxf_tree::File;
 use problem_reader::read_problem;
 use std::alloc::Global;
@@ -36,6 +39,7 @@ pub fn prepare<L: Library>(
     match command_of(words) {
         Command::Embed(name) => embed_file(alloc, libraries, name),
         Command::Check(name, second) => check_files(alloc, libraries, name, second),
+        Command::Lift(name, second) => lift_files(alloc, libraries, name, second),
         Command::Later => Err(Status::NotYet),
         Command::Unknown => Err(Status::Usage),
     }
@@ -102,7 +106,7 @@ fn print(alloc: Global, problem: &File) -> Result<Vec<u8>, Status>
 }
 
 /// The line `countermodel`, where the Kripke text of the second file is that of a countermodel of the file of this name with all
-/// that it includes. The second file is loaded once the first is read.
+/// that it includes.
 fn check_files<L: Library>(
     alloc: Global,
     libraries: &mut [L],
@@ -111,6 +115,48 @@ fn check_files<L: Library>(
 ) -> Result<Vec<u8>, Status>
     ensures text { let told = files_of (map L.shelf libraries.old) in IfOk result (λ line. CheckMeans told name.now second.now line.items) }
     ensures refused { let told = files_of (map L.shelf libraries.old) in IfErr result (CheckRefuses told name.now second.now) }
+    ensures causes { IfErr result (HasLoadCause (map L.shelf libraries.old) (map L.shelf libraries.new)) }
+    ensures keeps { KeepEach (map L.shelf libraries.old) (map L.shelf libraries.new) }
+{
+    let files = load_two(alloc, libraries, name, second)?;
+    check_text(alloc, &files.checked, &files.parts, second, &files.bytes)
+}
+
+/// The Kripke text of the structure that the interpretation in the second file gives, where it is a countermodel of the file of this
+/// name with all that it includes.
+fn lift_files<L: Library>(
+    alloc: Global,
+    libraries: &mut [L],
+    name: &Text,
+    second: &Text,
+) -> Result<Vec<u8>, Status>
+    ensures text { let told = files_of (map L.shelf libraries.old) in IfOk result (λ text. LiftMeans told name.now second.now text.items) }
+    ensures refused { let told = files_of (map L.shelf libraries.old) in IfErr result (LiftRefuses told name.now second.now) }
+    ensures causes { IfErr result (HasLoadCause (map L.shelf libraries.old) (map L.shelf libraries.new)) }
+    ensures keeps { KeepEach (map L.shelf libraries.old) (map L.shelf libraries.new) }
+{
+    let files = load_two(alloc, libraries, name, second)?;
+    lift_text(alloc, &files.checked, &files.parts, second, &files.bytes)
+}
+
+/// What two files are loaded as: the problem of the first, and the bytes of the second.
+#[derive(Drop)]
+struct TwoFiles {
+    parts: Parts,
+    checked: Checked,
+    bytes: Vec<u8>,
+}
+
+/// The problem of the file of this name with all that it includes, and then the second file.
+fn load_two<L: Library>(
+    alloc: Global,
+    libraries: &mut [L],
+    name: &Text,
+    second: &Text,
+) -> Result<TwoFiles, Status>
+    ensures loaded { let told = files_of (map L.shelf libraries.old) in IfOk result (λ two. AreLoaded told name.now second.now two.parts two.checked two.bytes.items) }
+    ensures short { IfOk result (λ two. length two.bytes.items ≤ 16777216) }
+    ensures refused { let told = files_of (map L.shelf libraries.old) in IfErr result (LoadRefuses told name.now second.now) }
     ensures causes { IfErr result (HasLoadCause (map L.shelf libraries.old) (map L.shelf libraries.new)) }
     ensures keeps { KeepEach (map L.shelf libraries.old) (map L.shelf libraries.new) }
 {
@@ -124,7 +170,11 @@ fn check_files<L: Library>(
     };
     drop(file);
     match load_one_from(alloc, libraries, second) {
-        Ok(bytes) => check_text(alloc, &checked, &parts, second, &bytes),
+        Ok(bytes) => Ok(TwoFiles {
+            parts,
+            checked,
+            bytes,
+        }),
         Err(error) => Err(status_of_gathering(error)),
     }
 }

@@ -15,7 +15,8 @@ use std::alloc::Global;
 /// All that the program does: it answers the words, over the files of a list of libraries, with a text to `out` or a line
 /// to `err`. `out` gets bytes only after the whole text was made. The answer to `embed FILE` is the classical problem of the
 /// file; that to `check FILE KRIPKE` is the line `countermodel`, where the second file has the Kripke text of a countermodel
-/// of the first; the other commands have no answer yet.
+/// of the first; that to `lift FILE INTERP` is the Kripke text of the structure that corresponds to the one that the
+/// interpretation in the second file gives, where it is a countermodel of the first; the other commands have no answer yet.
 pub fn run<O: Sink, E: Sink>(
     alloc: Global,
     words: &List<Text>,
@@ -35,7 +36,7 @@ pub fn run<O: Sink, E: Sink>(
     // Where there is a text and nothing failed, it is given.
     ensures completes { Completes (ran_on words.now shelf roots.old roots.new O.Sink out.old out.new E.Sink err.old err.new) result }
 
-    // The text means what the words ask: a translation, or that a structure is a countermodel.
+    // The text means what the words ask: a translation, that a structure is a countermodel, or the text of a countermodel.
     ensures means { Means (ran_on words.now shelf roots.old roots.new O.Sink out.old out.new E.Sink err.old err.new) result }
 {
     run_over(alloc, words, &mut roots.libraries, out, err)

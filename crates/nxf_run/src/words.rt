@@ -17,6 +17,8 @@ pub enum Command<'a> {
     Embed(&'a Text),
     /// Whether the structure of the second file, which is a Kripke text, is a countermodel of the first.
     Check(&'a Text, &'a Text),
+    /// The Kripke text of the structure that the interpretation in the second file gives, where it is a countermodel of the first.
+    Lift(&'a Text, &'a Text),
     /// A command that has no answer yet.
     Later,
     /// Nothing that has an answer.
@@ -55,7 +57,9 @@ fn with_two_words<'a>(command: &Text, file: &'a Text, other: &'a Text) -> Comman
         Command::Unknown
     } else if is_word(command, b"check") {
         Command::Check(file, other)
-    } else if is_word(command, b"lift") || is_word(command, b"lower") {
+    } else if is_word(command, b"lift") {
+        Command::Lift(file, other)
+    } else if is_word(command, b"lower") {
         Command::Later
     } else {
         Command::Unknown

@@ -1,7 +1,8 @@
 use Rattle.std.specs.Prelude.{Err}
 use Rattle.answer_definitions.specs.Answer.{OrMemory}
 use Rattle.answer_definitions.specs.KripkeFile.{ReadsStructure}
-use Rattle.check_answer.proofs.Verdicts.{handed_on, not_lexed_as, read_as, refused_as}
+use Rattle.check_answer.proofs.Judged.{handed_on}
+use Rattle.check_answer.proofs.Verdicts.{not_lexed_as, read_as, refused_as}
 use Rattle.check_answer.proofs.structure.read_structure.Goals as goal
 
 pub returns-in_err-tokens-clause-refused : goal.returns-in_err-tokens-clause-refused

@@ -1,4 +1,4 @@
-use Rattle.check_answer.proofs.check.check_text.Given as goal
+use Rattle.check_answer.proofs.judging.judge.Given as goal
 
 -- the ledger that the counter of steps is made of
 abbrev pub ghosts-fault_of : goal.ghosts-fault_of
