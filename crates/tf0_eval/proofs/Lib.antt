@@ -1,0 +1,4 @@
+pub mod FaultLemmas
+pub mod FormulaCases
+pub mod RoomLemmas
+pub mod TermCases
