@@ -9,7 +9,8 @@ ghost use Rattle.answer_definitions.specs.ProblemFile.{IsProfileRefusal};
 ghost use Rattle.nxf_run.specs.Ending.{NamesFile};
 ghost use Rattle.nxf_run.specs.Forms.{form_of};
 ghost use Rattle.nxf_run.specs.Meaning.{IsTranslation, EmbedMeans, CheckMeans, LiftMeans, TextMeans};
-ghost use Rattle.nxf_run.specs.steps.Preparing.{AreLoaded, LoadRefuses, EmbedRefuses, CheckRefuses, LiftRefuses, Refuses, IsOfLoading, HasLoadCause};
+ghost use Rattle.nxf_run.specs.steps.Preparing.{AreLoaded, IsOfLoading, HasLoadCause};
+ghost use Rattle.nxf_run.specs.steps.Preparing.{LoadRefuses, EmbedRefuses, CheckRefuses, LiftRefuses, Refuses};
 
 use crate::words::{Command, command_of};
 use check_answer::check_text;
@@ -154,7 +155,8 @@ fn load_two<L: Library>(
     name: &Text,
     second: &Text,
 ) -> Result<TwoFiles, Status>
-    ensures loaded { let told = files_of (map L.shelf libraries.old) in IfOk result (λ two. AreLoaded told name.now second.now two.parts two.checked two.bytes.items) }
+    ensures loaded { let told = files_of (map L.shelf libraries.old) in
+        IfOk result (λ two. AreLoaded told name.now second.now two.parts two.checked two.bytes.items) }
     ensures short { IfOk result (λ two. length two.bytes.items ≤ 16777216) }
     ensures refused { let told = files_of (map L.shelf libraries.old) in IfErr result (LoadRefuses told name.now second.now) }
     ensures causes { IfErr result (HasLoadCause (map L.shelf libraries.old) (map L.shelf libraries.new)) }
