@@ -2,7 +2,7 @@
 ghost use Rattle.std.specs.Prelude.{◌<◌};
 ghost use Rattle.fin_struct.specs.KripkeTables.{IsKripkeFor};
 
-use crate::structures::{small, small_structure};
+use crate::structures::{sized_structure, small, small_structure};
 use fin_struct::{Kripke, Rows};
 use kripke_build::{lift, lower};
 use nxf_tree::Signature;
@@ -30,6 +30,23 @@ fn there_and_back(rt: HostRuntime) -> Result<(), Fail> {
     assert_eq!(rt; structure.tables().cells(0), [0, 1, 0, 0].as_slice());
     let back = lift(alloc, &signature, &structure)?;
     assert_eq!(rt; back.tables().cells(0), [0, 1, 0, 0].as_slice());
+    Ok(())
+}
+
+// The most cells that the limits allow, but for some: the tables are the same behind both ways.
+#[test]
+fn four_million_cells_there_and_back(rt: HostRuntime) -> Result<(), Fail> {
+    let alloc = rt.alloc();
+    let signature = small(alloc)?;
+    let mut kripke = sized_structure(alloc, &signature, 2_040, 2, 3)?;
+    relate(&signature, &mut kripke, 7, 2_039);
+    let structure = lower(alloc, &signature, &kripke)?;
+    let back = lift(alloc, &signature, &structure)?;
+    let again = lower(alloc, &signature, &back)?;
+    assert_eq!(rt; structure.tables().cells(0).len(), 4_161_600);
+    assert_eq!(rt; structure.tables().cells(0).get(16_319), Some(&1));
+    assert_eq!(rt; back.tables().cells(0), kripke.tables().cells(0));
+    assert_eq!(rt; again.tables().cells(0), structure.tables().cells(0));
     Ok(())
 }
 

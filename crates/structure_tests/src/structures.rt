@@ -139,6 +139,24 @@ pub fn small(alloc: Global) -> Result<Signature, Memory>
     })
 }
 
+// Over that signature, a structure of these sizes with nothing written.
+pub fn sized_structure(
+    alloc: Global,
+    over: &Signature,
+    worlds: u32,
+    individuals: u32,
+    others: u32,
+) -> Result<Kripke, Fail>
+    requires small { over.now ≡ small_signature }
+    requires formed { IsWellFormed over.now }
+    requires some { (0 < worlds) × (0 < individuals) × (0 < others) }
+    ensures made { IfOk result (λ made. made ≡ blank_kripke small_signature worlds (individuals ∷ others ∷ [])) }
+    ensures over { IfOk result (λ made. IsKripkeFor over.now made) }
+{
+    let sizes = numbers(alloc, &[worlds, individuals, others])?;
+    Ok(Kripke::new(alloc, over, &sizes)?)
+}
+
 // Over that signature, two worlds, two elements of `$i` and three of `s`, with nothing written.
 pub fn small_structure(alloc: Global, over: &Signature) -> Result<Kripke, Fail>
     requires small { over.now ≡ small_signature }
@@ -146,8 +164,7 @@ pub fn small_structure(alloc: Global, over: &Signature) -> Result<Kripke, Fail>
     ensures made { IfOk result (λ made. made ≡ blank_kripke small_signature 2 (2 ∷ 3 ∷ [])) }
     ensures over { IfOk result (λ made. IsKripkeFor over.now made) }
 {
-    let sizes = numbers(alloc, &[2, 2, 3])?;
-    Ok(Kripke::new(alloc, over, &sizes)?)
+    sized_structure(alloc, over, 2, 2, 3)
 }
 
 #[test]
