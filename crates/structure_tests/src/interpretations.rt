@@ -43,3 +43,15 @@ fn each_row_is_printed(rt: HostRuntime) -> Result<(), Fail> {
     assert_eq!(rt; text.as_slice(), wanted.as_slice());
     Ok(())
 }
+
+// Nearly as many cells as the limits allow, of which each is a row of the text.
+#[test]
+fn four_million_cells_are_printed(rt: HostRuntime) -> Result<(), Fail> {
+    let alloc = rt.alloc();
+    let over = classical(alloc, &small(alloc)?)?;
+    let sizes = numbers(alloc, &[2_040, 2, 3])?;
+    let structure = Structure::new(alloc, &over, &sizes)?;
+    let text = print(alloc, &over, &structure)?;
+    assert!(rt; text.len() > 4_179_962 * 20);
+    Ok(())
+}
